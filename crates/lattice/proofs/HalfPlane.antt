@@ -1,0 +1,107 @@
+-- An integer affine functional that is at least 0 on S is at least 0 on the hull of S. Assumes nothing.
+use mathlib.Core.Path.{_≡_, refl, sym, subst}
+use mathlib.Core.Logic.{_⊎_, inl, inr}
+use mathlib.Core.List.{List, [], _∷_}
+use lib.IntN.{ℤ, pos, negsuc, negℤ, _+ℤ_, _-ℤ_, _*ℤ_}
+use lib.Signed.{_≤ℤ_, _<ℤ_}
+use Rattle.whole.proofs.Whole.{
+  ring,
+  quote,
+  _≤ᶻ_,
+  NonNegative,
+  square-nonnegative,
+  gap≤,
+  gap<,
+  _⊞_,
+  _⊠_,
+  _⋆≡_,
+  linear≤,
+  linear⊥,
+  Sign,
+  below,
+  nought,
+  above,
+  sign,
+  nonnegative-factor,
+  difference-zero,
+  square-zero,
+  squares-zero,
+}
+use Rattle.lattice.specs.Point.{Point}
+use Rattle.lattice.specs.Hull.{turn, Between, OnSegment, InTriangle, InHull, member, segment, triangle}
+use Rattle.lattice.proofs.Turn.{coordinates, affine, barycentric}
+
+-- two points with the same coordinates
+pub point-equal : {p q : Point} → p .x ≡ q .x → p .y ≡ q .y → p ≡ q
+point-equal e f = λ i. record { x = e i; y = f i }
+
+-- ---- between, by a product
+pub between-product : (u v w : ℤ) → Between u v w → NonNegative ((w -ℤ u) *ℤ (v -ℤ w))
+between-product u v w (inl h) = gap≤ (h .0) ⊠ gap≤ (h .1)
+between-product u v w (inr h) = linear≤ (u ∷ v ∷ w ∷ []) (gap≤ (h .0) ⊠ gap≤ (h .1)) (search quote depth 20) tt
+
+-- between a number and itself
+pinched : (u v w : ℤ) → v -ℤ u ≡ pos 0 → Between u v w → w ≡ u
+pinched u v w e h =
+    difference-zero
+    (square-zero (linear≤ (u ∷ v ∷ w ∷ []) (between-product u v w h ⊞ (w -ℤ u) ⋆≡ e) (search quote depth 20) tt))
+
+-- ---- the product of p − a and b − q; of one vector with itself it is the square of its length
+abbrev dot : Point → Point → Point → Point → ℤ
+dot a p q b = (p .x -ℤ a .x) *ℤ (b .x -ℤ q .x) +ℤ (p .y -ℤ a .y) *ℤ (b .y -ℤ q .y)
+
+square-length : (u v : Point) → NonNegative (dot u v u v)
+square-length u v = square-nonnegative (v .x -ℤ u .x) ⊞ square-nonnegative (v .y -ℤ u .y)
+
+-- barycentric on a segment
+along : (α β γ : ℤ) (a b p : Point)
+    → dot a b a b *ℤ affine α β γ p
+    ≡ (dot a p p b +ℤ dot p b p b) *ℤ affine α β γ a
+    +ℤ (dot a p p b +ℤ dot a p a p) *ℤ affine α β γ b
+    +ℤ (β *ℤ (b .x -ℤ a .x) -ℤ α *ℤ (b .y -ℤ a .y)) *ℤ turn a b p
+along α β γ a b p = ring (α ∷ β ∷ γ ∷ coordinates (a ∷ b ∷ p ∷ [])) (search quote depth 20) tt
+
+nothing-of : (k : ℤ) {a : ℤ} → a ≡ pos 0 → NonNegative (k *ℤ a)
+nothing-of k {a} e = linear≤ (k ∷ a ∷ []) (k ⋆≡ sym e) (search quote depth 20) tt
+
+module _ (α β γ : ℤ) where
+  abbrev Up : Point → Type 0
+  Up p = NonNegative (affine α β γ p)
+
+  on-segment : (a b p : Point) → OnSegment a b p → Up a → Up b → Up p
+  on-segment a b p h f g = by-sign (sign (dot a b a b))
+    where
+      between : NonNegative (dot a p p b)
+      between = between-product (a .x) (b .x) (p .x) (h .x-between) ⊞ between-product (a .y) (b .y) (p .y) (h .y-between)
+
+      at-a : dot a b a b ≡ pos 0 → p ≡ a
+      at-a e =
+          let z = squares-zero (b .x -ℤ a .x) (b .y -ℤ a .y) e in
+          point-equal (pinched (a .x) (b .x) (p .x) (z .0) (h .x-between)) (pinched (a .y) (b .y) (p .y) (z .1) (h .y-between))
+
+      by-sign : Sign (dot a b a b) → Up p
+      by-sign (below l) = linear⊥ (coordinates (a ∷ b ∷ [])) (gap< l ⊞ square-length a b) (search quote depth 20) tt
+      by-sign (nought e) = subst Up (sym (at-a e)) f
+      by-sign (above l) =
+          nonnegative-factor
+          (subst NonNegative (sym (along α β γ a b p))
+          (((between ⊞ square-length p b) ⊠ f ⊞ (between ⊞ square-length a p) ⊠ g)
+          ⊞ nothing-of (β *ℤ (b .x -ℤ a .x) -ℤ α *ℤ (b .y -ℤ a .y)) (h .straight)))
+          l
+
+  on-triangle : (a b c p : Point) → InTriangle a b c p → Up a → Up b → Up c → Up p
+  on-triangle a b c p h f g e =
+      nonnegative-factor
+      (subst NonNegative (sym (barycentric α β γ a b c p)) ((h .left-bc ⊠ f ⊞ h .left-ca ⊠ g) ⊞ h .left-ab ⊠ e))
+      (h .turned)
+
+  affine-half-plane : {S : Point → Type 0} → ((q : Point) → S q → Up q) → {p : Point} → InHull S p → Up p
+  affine-half-plane h {p} (member m) = h p m
+  affine-half-plane h {p} (segment a b u v i) = on-segment a b p i (h a u) (h b v)
+  affine-half-plane h {p} (triangle a b c u v w i) = on-triangle a b c p i (h a u) (h b v) (h c w)
+
+-- the theorem, for a functional given by its own text
+pub half-plane : (L : Point → ℤ) (α β γ : ℤ) → ((q : Point) → L q ≡ affine α β γ q)
+    → {S : Point → Type 0} → ((q : Point) → S q → NonNegative (L q)) → {p : Point} → InHull S p → NonNegative (L p)
+half-plane L α β γ fit h {p} i =
+    subst NonNegative (sym (fit p)) (affine-half-plane α β γ (λ q m. subst NonNegative (fit q) (h q m)) i)

@@ -1,0 +1,61 @@
+-- The laws of turn, one identity each. Assumes nothing.
+use mathlib.Core.Path.{_≡_}
+use mathlib.Core.List.{List, [], _∷_}
+use lib.IntN.{ℤ, pos, negℤ, _+ℤ_, _-ℤ_, _*ℤ_}
+use Rattle.whole.proofs.Whole.{ring, quote}
+use Rattle.lattice.specs.Point.{Point}
+use Rattle.lattice.specs.Hull.{turn}
+
+-- the coordinates of some points, for the list of variables of an identity
+abbrev pub coordinates : List Point → List ℤ
+coordinates [] = []
+coordinates (p ∷ ps) = p .x ∷ p .y ∷ coordinates ps
+
+-- an affine functional
+abbrev pub affine : ℤ → ℤ → ℤ → Point → ℤ
+affine α β γ p = α *ℤ p .x +ℤ β *ℤ p .y +ℤ γ
+
+-- a linear functional, by which points can be ordered
+abbrev pub linear : ℤ → ℤ → Point → ℤ
+linear α β p = α *ℤ p .x +ℤ β *ℤ p .y
+
+-- ---- order of the three points
+pub turn-cyclic : (a b c : Point) → turn a b c ≡ turn b c a
+turn-cyclic a b c = ring (coordinates (a ∷ b ∷ c ∷ [])) (search quote depth 20) tt
+
+pub turn-antisymmetric : (a b c : Point) → turn a b c ≡ negℤ (turn b a c)
+turn-antisymmetric a b c = ring (coordinates (a ∷ b ∷ c ∷ [])) (search quote depth 20) tt
+
+-- ---- a fourth point
+pub turn-splits : (a b c p : Point) → turn a b p +ℤ turn b c p +ℤ turn c a p ≡ turn a b c
+turn-splits a b c p = ring (coordinates (a ∷ b ∷ c ∷ p ∷ [])) (search quote depth 20) tt
+
+-- a fifth: every step "sorted by angle about o, so .." is this one
+pub plücker : (o p q r s : Point)
+    → turn o p q *ℤ turn o r s ≡ turn o p r *ℤ turn o q s +ℤ turn o p s *ℤ turn o r q
+plücker o p q r s = ring (coordinates (o ∷ p ∷ q ∷ r ∷ s ∷ [])) (search quote depth 20) tt
+
+-- ---- turn and functionals
+pub barycentric : (α β γ : ℤ) (a b c p : Point)
+    → turn a b c *ℤ affine α β γ p
+    ≡ turn b c p *ℤ affine α β γ a +ℤ turn c a p *ℤ affine α β γ b +ℤ turn a b p *ℤ affine α β γ c
+barycentric α β γ a b c p = ring (α ∷ β ∷ γ ∷ coordinates (a ∷ b ∷ c ∷ p ∷ [])) (search quote depth 20) tt
+
+-- three vectors from o: where the functional is positive on them, the turn order about o is transitive
+pub three-vectors : (α β : ℤ) (o u v w : Point)
+    → (linear α β v -ℤ linear α β o) *ℤ turn o u w
+    ≡ (linear α β w -ℤ linear α β o) *ℤ turn o u v +ℤ (linear α β u -ℤ linear α β o) *ℤ turn o v w
+three-vectors α β o u v w = ring (α ∷ β ∷ coordinates (o ∷ u ∷ v ∷ w ∷ [])) (search quote depth 20) tt
+
+-- ---- motions that keep the turn
+abbrev pub translated : ℤ → ℤ → Point → Point
+translated c d p = record { x = p .x +ℤ c; y = p .y +ℤ d }
+
+abbrev pub slipped : ℤ → ℤ → Point → Point
+slipped k c p = record { x = p .x +ℤ k *ℤ p .y +ℤ c; y = p .y }
+
+pub turn-translated : (c d : ℤ) (p q r : Point) → turn (translated c d p) (translated c d q) (translated c d r) ≡ turn p q r
+turn-translated c d p q r = ring (c ∷ d ∷ coordinates (p ∷ q ∷ r ∷ [])) (search quote depth 20) tt
+
+pub turn-slipped : (k c : ℤ) (p q r : Point) → turn (slipped k c p) (slipped k c q) (slipped k c r) ≡ turn p q r
+turn-slipped k c p q r = ring (k ∷ c ∷ coordinates (p ∷ q ∷ r ∷ [])) (search quote depth 20) tt
