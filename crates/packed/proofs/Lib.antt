@@ -1,0 +1,3 @@
+-- Laws of packed points, and that sums and products of coordinates fit the machine's numbers.
+pub mod Small
+pub mod Border

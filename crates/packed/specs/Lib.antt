@@ -1,0 +1,2 @@
+-- How the code holds a point.
+pub mod Packed
