@@ -6,3 +6,5 @@ pub mod Decide
 pub mod Frame
 pub mod Refusals
 pub mod Grains
+pub mod Numbers
+pub mod Rooms

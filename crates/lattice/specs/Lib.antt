@@ -2,4 +2,5 @@
 pub mod Point
 pub mod Hull
 pub mod Refusal
+pub mod Room
 pub mod Grains

@@ -1,4 +1,5 @@
 -- A point of the range as one natural number, so that row order is the order of numbers: how the code holds points. Assumes nothing.
+use mathlib.Core.Bool.{Bool, true, false}
 use Prim.Native.Nat.{ℕ, _+_, _*_, _/_, _%_}
 use lib.IntN.{ℤ, pos, negℤ, natAbs, _+ℤ_, _-ℤ_}
 use lib.Signed.{_≤ℤ_}
@@ -31,3 +32,8 @@ unpacked k = record { x = placed (k % side); y = placed (k / side) }
 pub record Within (k : ℕ) (z : ℤ) : Type 0 where
   pub low : negℤ (pos k) ≤ℤ z
   pub high : z ≤ℤ pos k
+
+-- a test says whether P holds
+abbrev pub Tells : Bool → Type 0 → Type 0
+Tells true P = P
+Tells false P = P → ⊥

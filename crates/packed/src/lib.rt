@@ -5,7 +5,7 @@ ghost use lib.IntN.{pos};
 ghost use lib.Signed.{_≤ℤ_, ltZ, leZ};
 ghost use Rattle.lattice.specs.Point.{least, greatest, InRange};
 ghost use Rattle.lattice.specs.Hull.{turn as turnOf};
-ghost use Rattle.packed.specs.Packed.{Within, side, cells, moved as movedOf, placed as placedOf, packed as packedOf, unpacked};
+ghost use Rattle.packed.specs.Packed.{Tells, Within, side, cells, moved as movedOf, placed as placedOf, packed as packedOf, unpacked};
 
 // The most points that go in, and the range of a coordinate.
 pub const MOST: usize = 4096;
@@ -18,6 +18,25 @@ pub const GREATEST: i32 = 8191;
 const OFFSET: i32 = 8192;
 
 const SIDE: u32 = 16384;
+
+// Whether both coordinates are in range.
+pub fn in_range(x: i32, y: i32) -> bool
+    ensures { λ r. ⌜ Tells r (InRange (record { x = x; y = y })) ⌝ }
+{
+    if x < LEAST {
+        return false;
+    }
+    if GREATEST < x {
+        return false;
+    }
+    if y < LEAST {
+        return false;
+    }
+    if GREATEST < y {
+        return false;
+    }
+    true
+}
 
 // A coordinate of the range, moved to start at 0; and back. Only these two are signed and unsigned at once.
 pub fn moved(z: i32) -> u32

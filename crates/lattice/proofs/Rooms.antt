@@ -1,0 +1,57 @@
+-- A room that begins with some points, and one point more written behind them. Assumes nothing.
+use mathlib.Core.Path.{_≡_, refl, sym, _∙_, ap}
+use mathlib.Core.List.{List, [], _∷_, _++_, append-assoc}
+use Prim.Native.Nat.{ℕ, suc, _+_, _*_, _≤_, _<_}
+use native.Mathlib.Omega.{arith}
+use lib.ListN.{length, getD, drop, set, length-append, length-drop}
+use lib.Seq.{drop-cons, set-at}
+use lib.IntN.{ℤ, pos}
+use Rattle.lattice.specs.Point.{Point}
+use Rattle.lattice.specs.Room.{numbers, holding}
+use Rattle.lattice.proofs.Numbers.{numbers-length, numbers-append}
+
+pub holding-length : (l : List Point) (room : List ℤ) → 2 * length l ≤ length room → length (holding l room) ≡ length room
+holding-length l room h =
+    length-append (numbers l) (drop (2 * length l) room) ∙ omega (arith, numbers-length l, length-drop (2 * length l) room)
+
+-- what stood at the next two places
+module _ (room : List ℤ) (n : ℕ) (h : n + 1 < length room) where
+  first : ℤ
+  first = getD room n (pos 0)
+
+  second : ℤ
+  second = getD room (n + 1) (pos 0)
+
+  next-two : drop n room ≡ first ∷ second ∷ drop (n + 2) room
+  unfolding first second
+  next-two =
+      let e : suc n ≡ n + 1 = omega arith in
+      let f : suc (n + 1) ≡ n + 2 = omega arith in
+      drop-cons room n (pos 0) (omega arith)
+      ∙ ap (λ l. getD room n (pos 0) ∷ l)
+      (ap (λ m. drop m room) e ∙ drop-cons room (n + 1) (pos 0) h
+      ∙ ap (λ m. getD room (n + 1) (pos 0) ∷ drop m room) f)
+
+pub holding-more : (l : List Point) (p : Point) (room : List ℤ) → 2 * length l + 1 < length room
+    → set (set (holding l room) (2 * length l) (p .x)) (2 * length l + 1) (p .y) ≡ holding (l ++ p ∷ []) room
+holding-more l p room h =
+    let a = numbers l in
+    let n = 2 * length l in
+    let u = first room n h in
+    let v = second room n h in
+    let rest = drop (n + 2) room in
+    let e : length (a ++ p .x ∷ []) ≡ n + 1 = length-append a (p .x ∷ []) ∙ omega (arith, numbers-length l) in
+    let f : n + 2 ≡ 2 * length (l ++ p ∷ []) = omega (arith, length-append l (p ∷ [])) in
+    ap (λ m. set (set (a ++ m) n (p .x)) (n + 1) (p .y)) (next-two room n h)
+    ∙ ap (λ m. set m (n + 1) (p .y)) (set-at a u (v ∷ rest) (p .x) n (numbers-length l) ∙ sym (append-assoc a (p .x ∷ []) (v ∷ rest)))
+    ∙ set-at (a ++ p .x ∷ []) v rest (p .y) (n + 1) e
+    ∙ append-assoc a (p .x ∷ []) (p .y ∷ rest)
+    ∙ sym (append-assoc a (p .x ∷ p .y ∷ []) rest)
+    ∙ ap (λ m. m ++ rest) (sym (numbers-append l (p ∷ [])))
+    ∙ ap (λ m. numbers (l ++ p ∷ []) ++ drop m room) f
+
+-- the same where the points are counted
+pub holding-next : (l : List Point) (n : ℕ) → length l ≡ n → (p : Point) (room : List ℤ) → 2 * n + 1 < length room
+    → set (set (holding l room) (2 * n) (p .x)) (2 * n + 1) (p .y) ≡ holding (l ++ p ∷ []) room
+holding-next l n e p room h =
+    ap (λ m. set (set (holding l room) (2 * m) (p .x)) (2 * m + 1) (p .y)) (sym e) ∙ holding-more l p room (omega arith)

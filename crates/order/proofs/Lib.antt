@@ -1,0 +1,3 @@
+-- Laws of the loops of this crate, and of points in row order as the code holds them.
+pub mod Marking
+pub mod Writing

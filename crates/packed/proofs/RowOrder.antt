@@ -1,0 +1,80 @@
+-- Row order is the order of packed points, packing and unpacking undo one another, and what is unpacked is in range. Assumes nothing.
+use mathlib.Core.Path.{_≡_, refl, sym, _∙_, ap, subst}
+use mathlib.Core.List.{[], _∷_}
+use Prim.Native.Nat.{ℕ, _+_, _*_, _/_, _%_, _≤_, _<_}
+use native.Mathlib.Omega.{arith}
+use lib.Dec.{leb→le, ltb→lt, le→leb, lt→ltb}
+use lib.IntN.{ℤ, pos, natAbs, _+ℤ_, _-ℤ_}
+use lib.Signed.{_≤ℤ_, _<ℤ_}
+use Rattle.whole.proofs.Whole.{ring, quote, _≤ᶻ_, _<ᶻ_, natural, gap≤, gap<, _⊞_, _⋆≡_, linear≤, linear<, linear≡, _∗≡_}
+use Rattle.lattice.specs.Point.{Point, InRange, Before, row, column}
+use Rattle.lattice.proofs.Lists.{either}
+use Rattle.lattice.proofs.HalfPlane.{point-equal}
+use Rattle.lattice.proofs.Refusals.{lt-or-le}
+use Rattle.packed.specs.Packed.{offset, side, cells, moved, placed, packed, unpacked}
+use Rattle.packed.proofs.Border.{moved-is, moved-small}
+
+-- ---- one coordinate
+placed-moved : (z : ℤ) → pos offset +ℤ z ≡ pos (moved z) → placed (moved z) ≡ z
+placed-moved z e = linear≡ (z ∷ pos (moved z) ∷ []) (pos 1 ∗≡ sym e) (search quote depth 20) tt
+
+placed-order : (m n : ℕ) → m < n → placed m <ᶻ placed n
+placed-order m n h =
+    let l : pos m <ᶻ pos n = record { lt = lt→ltb m n h } in
+    linear< (pos m ∷ pos n ∷ []) (gap< l) (search quote depth 20) tt
+
+order-placed : (m n : ℕ) → placed m <ᶻ placed n → m < n
+order-placed m n h =
+    let l : pos m <ᶻ pos n = linear< (pos m ∷ pos n ∷ []) (gap< h) (search quote depth 20) tt in
+    ltb→lt m n (l .lt)
+
+placed-injective : (m n : ℕ) → placed m ≡ placed n → m ≡ n
+placed-injective m n e =
+    let f : pos m ≡ pos n = linear≡ (pos m ∷ pos n ∷ []) (pos 1 ∗≡ e) (search quote depth 20) tt in
+    ap natAbs f
+
+placed-range : (n : ℕ) → n < side → (placed 0 ≤ᶻ placed n) × (placed n ≤ᶻ placed 16383)
+placed-range n h =
+    let u : pos n ≤ᶻ pos 16383 = record { le = le→leb n 16383 (omega arith) } in (
+      linear≤ (pos n ∷ []) (natural n) (search quote depth 20) tt,
+      linear≤ (pos n ∷ []) (gap≤ u) (search quote depth 20) tt,
+    )
+
+-- ---- points
+pub unpacked-in-range : (k : ℕ) → k < cells → InRange (unpacked k)
+unpacked-in-range k h =
+    let x = placed-range (k % side) (omega arith) in
+    let y = placed-range (k / side) (omega arith) in
+    record { x-from = x .0; x-to = x .1; y-from = y .0; y-to = y .1 }
+
+pub packed-below : (p : Point) → InRange p → packed p < cells
+packed-below p r =
+    omega (arith, moved-small (p .x) (r .x-from) (r .x-to), moved-small (p .y) (r .y-from) (r .y-to))
+
+pub unpacked-packed : (p : Point) → InRange p → unpacked (packed p) ≡ p
+unpacked-packed p r =
+    let u = moved-small (p .x) (r .x-from) (r .x-to) in
+    let v = moved-small (p .y) (r .y-from) (r .y-to) in
+    let e : packed p % side ≡ moved (p .x) = omega arith in
+    let f : packed p / side ≡ moved (p .y) = omega arith in
+    point-equal
+    (ap placed e ∙ placed-moved (p .x) (ring (p .x ∷ []) (search quote depth 20) tt ∙ moved-is (p .x) (r .x-from)))
+    (ap placed f ∙ placed-moved (p .y) (ring (p .y ∷ []) (search quote depth 20) tt ∙ moved-is (p .y) (r .y-from)))
+
+pub unpacked-injective : (k l : ℕ) → unpacked k ≡ unpacked l → k ≡ l
+unpacked-injective k l e =
+    let x = placed-injective (k % side) (l % side) (ap (λ p. p .x) e) in
+    let y = placed-injective (k / side) (l / side) (ap (λ p. p .y) e) in
+    omega arith
+
+-- ---- row order
+pub before-unpacked : (k l : ℕ) → k < l → Before (unpacked k) (unpacked l)
+before-unpacked k l h =
+    either (lt-or-le (k / side) (l / side))
+    (λ r. row (placed-order (k / side) (l / side) r))
+    (λ r. let e : k / side ≡ l / side = omega arith in column (ap placed e) (placed-order (k % side) (l % side) (omega arith)))
+
+pub unpacked-before : (k l : ℕ) → Before (unpacked k) (unpacked l) → k < l
+unpacked-before k l (row r) = omega (arith, order-placed (k / side) (l / side) r)
+unpacked-before k l (column e c) =
+    omega (arith, placed-injective (k / side) (l / side) e, order-placed (k % side) (l % side) c)

@@ -1,0 +1,42 @@
+-- What a comparison of signed numbers that came out true or false says of them. Assumes nothing.
+use mathlib.Core.Path.{_≡_, sym, _∙_, ap, subst}
+use mathlib.Core.Bool.{Bool, true, false, not}
+use lib.Dec.{T}
+use lib.IntN.{ℤ}
+use lib.Signed.{_≤ℤ_, _<ℤ_, leZ, ltZ, ltZ-no}
+use mir.Syntax.{w32}
+use mir.Val.{SFits, toZ, ofZ}
+use mir.ValLaws.{toZ-ofZ}
+use Rattle.whole.proofs.Whole.{le-or-lt}
+use Rattle.lattice.proofs.Lists.{either}
+use Rattle.packed.specs.Packed.{Tells}
+
+pub lt-yes : {a b : ℤ} → ltZ a b ≡ true → a <ℤ b
+lt-yes e = record { lt = subst T (sym e) tt }
+
+pub lt-no : {a b : ℤ} → ltZ a b ≡ false → b ≤ℤ a
+lt-no e = ltZ-no (subst (λ t. T (not t)) (sym e) tt)
+
+pub le-yes : {a b : ℤ} → leZ a b ≡ true → a ≤ℤ b
+le-yes e = record { le = subst T (sym e) tt }
+
+pub le-no : {a b : ℤ} → leZ a b ≡ false → b <ℤ a
+le-no {a} {b} e = either (le-or-lt a b) (λ h. absurd (subst T e (h .le))) (λ h. h)
+
+-- a signed number read back from the machine's bits
+pub read-back : (z : ℤ) → SFits w32 z → toZ w32 (ofZ w32 z) ≡ z
+read-back z f = toZ-ofZ w32 z f
+
+module _ (z : ℤ) (f : SFits w32 z) (b : ℤ) where
+  pub read-lt : {t : Bool} → ltZ (toZ w32 (ofZ w32 z)) b ≡ t → ltZ z b ≡ t
+  read-lt e = ap (λ w. ltZ w b) (sym (read-back z f)) ∙ e
+
+  pub read-gt : {t : Bool} → ltZ b (toZ w32 (ofZ w32 z)) ≡ t → ltZ b z ≡ t
+  read-gt e = ap (λ w. ltZ b w) (sym (read-back z f)) ∙ e
+
+-- a test that tells whether P holds
+pub tells-yes : {b : Bool} {P : Type 0} → b ≡ true → Tells b P → P
+tells-yes {b} {P} e h = subst (λ t. Tells t P) e h
+
+pub tells-no : {b : Bool} {P : Type 0} → b ≡ false → Tells b P → P → ⊥
+tells-no {b} {P} e h = subst (λ t. Tells t P) e h
