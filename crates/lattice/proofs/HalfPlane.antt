@@ -22,6 +22,8 @@ use Rattle.whole.proofs.Whole.{
   linear<,
   linear⊥,
   le-or-lt,
+  le-of-equal,
+  le-of-lt,
   Sign,
   below,
   nought,
@@ -44,6 +46,27 @@ point-equal e f = λ i. record { x = e i; y = f i }
 pub between-product : (u v w : ℤ) → Between u v w → NonNegative ((w -ℤ u) *ℤ (v -ℤ w))
 between-product u v w (inl h) = gap≤ (h .0) ⊠ gap≤ (h .1)
 between-product u v w (inr h) = linear≤ (u ∷ v ∷ w ∷ []) (gap≤ (h .0) ⊠ gap≤ (h .1)) (search quote depth 20) tt
+
+pub product-between : (u v w : ℤ) → NonNegative ((w -ℤ u) *ℤ (v -ℤ w)) → Between u v w
+product-between u v w h = by-sign (sign (w -ℤ u))
+  where
+    at-u : w -ℤ u ≡ pos 0 → (v ≤ᶻ u) ⊎ (u <ᶻ v) → Between u v w
+    at-u e (inl k) = inr (subst (λ z. v ≤ᶻ z) (sym (difference-zero e)) k, le-of-equal (difference-zero e))
+    at-u e (inr k) = inl (le-of-equal (sym (difference-zero e)), subst (λ z. z ≤ᶻ v) (sym (difference-zero e)) (le-of-lt k))
+
+    by-sign : Sign (w -ℤ u) → Between u v w
+    by-sign (below l) = inr (
+      linear≤ (v ∷ w ∷ [])
+          (nonnegative-factor {a = u -ℤ w} {b = w -ℤ v} (linear≤ (u ∷ v ∷ w ∷ []) h (search quote depth 20) tt)
+          (linear< (u ∷ w ∷ []) (gap< l) (search quote depth 20) tt))
+          (search quote depth 20) tt,
+      linear≤ (u ∷ w ∷ []) (gap< l) (search quote depth 20) tt,
+    )
+    by-sign (nought e) = at-u e (le-or-lt v u)
+    by-sign (above l) = inl (
+      linear≤ (u ∷ w ∷ []) (gap< l) (search quote depth 20) tt,
+      linear≤ (v ∷ w ∷ []) (nonnegative-factor h l) (search quote depth 20) tt,
+    )
 
 -- between a number and itself
 pinched : (u v w : ℤ) → v -ℤ u ≡ pos 0 → Between u v w → w ≡ u

@@ -9,6 +9,7 @@ pub mod RowOrder
 pub mod Reach
 pub mod RowKey
 pub mod Shape
+pub mod Polygon
 pub mod Frame
 pub mod Refusals
 pub mod Grains
