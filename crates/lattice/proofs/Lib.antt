@@ -10,6 +10,7 @@ pub mod Reach
 pub mod RowKey
 pub mod Shape
 pub mod Polygon
+pub mod Sandwich
 pub mod Frame
 pub mod Refusals
 pub mod Grains
