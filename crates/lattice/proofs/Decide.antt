@@ -27,6 +27,7 @@ use Rattle.lattice.specs.Hull.{
 }
 use Rattle.lattice.proofs.Lists.{either, all-in, in-all}
 use Rattle.lattice.proofs.HalfPlane.{point-equal}
+use Rattle.lattice.proofs.HullLaws.{hull-larger}
 
 -- a test, and that it passes exactly if P holds
 pub record Decided (P : Type 0) : Type 0 where
@@ -228,12 +229,6 @@ module _ (s : List Point) (p : Point) where
 
   abbrev pub hull? : Decided (InHull (Of s) p)
   hull? = in-words hull-words words-hull (one-of (in? p s) (one-of segments? triangles?))
-
--- a larger S has a larger hull
-pub hull-larger : (S U : Point → Type 0) → ((q : Point) → S q → U q) → (p : Point) → InHull S p → InHull U p
-hull-larger S U f p (member m) = member (f p m)
-hull-larger S U f p (segment a b u v i) = segment a b (f a u) (f b v) i
-hull-larger S U f p (triangle a b c u v w i) = triangle a b c (f a u) (f b v) (f c w) i
 
 -- ---- corners and missing points
 module _ (s : List Point) (p : Point) where

@@ -1,5 +1,6 @@
--- An integer affine functional that is at least 0 on S is at least 0 on the hull of S. Assumes nothing.
-use mathlib.Core.Path.{_≡_, refl, sym, subst}
+-- An integer affine functional that is at least 0 on S is at least 0 on the hull of S; one that is at least 1 on S and at most 0 at p keeps p out
+-- of the hull. Assumes nothing.
+use mathlib.Core.Path.{_≡_, refl, sym, _∙_, ap, subst}
 use mathlib.Core.Logic.{_⊎_, inl, inr}
 use mathlib.Core.List.{List, [], _∷_}
 use lib.IntN.{ℤ, pos, negsuc, negℤ, _+ℤ_, _-ℤ_, _*ℤ_}
@@ -8,7 +9,9 @@ use Rattle.whole.proofs.Whole.{
   ring,
   quote,
   _≤ᶻ_,
+  _<ᶻ_,
   NonNegative,
+  Positive,
   square-nonnegative,
   gap≤,
   gap<,
@@ -16,7 +19,11 @@ use Rattle.whole.proofs.Whole.{
   _⊠_,
   _⋆≡_,
   linear≤,
+  linear<,
   linear⊥,
+  le-or-lt,
+  le-of-equal,
+  le-of-lt,
   Sign,
   below,
   nought,
@@ -29,7 +36,7 @@ use Rattle.whole.proofs.Whole.{
 }
 use Rattle.lattice.specs.Point.{Point}
 use Rattle.lattice.specs.Hull.{turn, Between, OnSegment, InTriangle, InHull, member, segment, triangle}
-use Rattle.lattice.proofs.Turn.{coordinates, affine, barycentric}
+use Rattle.lattice.proofs.Turn.{coordinates, affine, linear, barycentric}
 
 -- two points with the same coordinates
 pub point-equal : {p q : Point} → p .x ≡ q .x → p .y ≡ q .y → p ≡ q
@@ -39,6 +46,27 @@ point-equal e f = λ i. record { x = e i; y = f i }
 pub between-product : (u v w : ℤ) → Between u v w → NonNegative ((w -ℤ u) *ℤ (v -ℤ w))
 between-product u v w (inl h) = gap≤ (h .0) ⊠ gap≤ (h .1)
 between-product u v w (inr h) = linear≤ (u ∷ v ∷ w ∷ []) (gap≤ (h .0) ⊠ gap≤ (h .1)) (search quote depth 20) tt
+
+pub product-between : (u v w : ℤ) → NonNegative ((w -ℤ u) *ℤ (v -ℤ w)) → Between u v w
+product-between u v w h = by-sign (sign (w -ℤ u))
+  where
+    at-u : w -ℤ u ≡ pos 0 → (v ≤ᶻ u) ⊎ (u <ᶻ v) → Between u v w
+    at-u e (inl k) = inr (subst (λ z. v ≤ᶻ z) (sym (difference-zero e)) k, le-of-equal (difference-zero e))
+    at-u e (inr k) = inl (le-of-equal (sym (difference-zero e)), subst (λ z. z ≤ᶻ v) (sym (difference-zero e)) (le-of-lt k))
+
+    by-sign : Sign (w -ℤ u) → Between u v w
+    by-sign (below l) = inr (
+      linear≤ (v ∷ w ∷ [])
+          (nonnegative-factor {a = u -ℤ w} {b = w -ℤ v} (linear≤ (u ∷ v ∷ w ∷ []) h (search quote depth 20) tt)
+          (linear< (u ∷ w ∷ []) (gap< l) (search quote depth 20) tt))
+          (search quote depth 20) tt,
+      linear≤ (u ∷ w ∷ []) (gap< l) (search quote depth 20) tt,
+    )
+    by-sign (nought e) = at-u e (le-or-lt v u)
+    by-sign (above l) = inl (
+      linear≤ (u ∷ w ∷ []) (gap< l) (search quote depth 20) tt,
+      linear≤ (v ∷ w ∷ []) (nonnegative-factor h l) (search quote depth 20) tt,
+    )
 
 -- between a number and itself
 pinched : (u v w : ℤ) → v -ℤ u ≡ pos 0 → Between u v w → w ≡ u
@@ -105,3 +133,41 @@ pub half-plane : (L : Point → ℤ) (α β γ : ℤ) → ((q : Point) → L q �
     → {S : Point → Type 0} → ((q : Point) → S q → NonNegative (L q)) → {p : Point} → InHull S p → NonNegative (L p)
 half-plane L α β γ fit h {p} i =
     subst NonNegative (sym (fit p)) (affine-half-plane α β γ (λ q m. subst NonNegative (fit q) (h q m)) i)
+
+-- a functional that is at least 1 on S and at most 0 at p keeps p out of the hull of S
+pub keeps-out : (L : Point → ℤ) (α β γ : ℤ) → ((q : Point) → L q ≡ affine α β γ q)
+    → {S : Point → Type 0} → ((q : Point) → S q → Positive (L q)) → {p : Point} → L p ≤ᶻ pos 0 → InHull S p → ⊥
+keeps-out L α β γ fit h {p} g i =
+    clash (L p) g
+    (half-plane (λ q. L q -ℤ pos 1) α β (γ -ℤ pos 1) one-less (λ q m. one-off (L q) (h q m)) i)
+  where
+    one-off : (z : ℤ) → Positive z → NonNegative (z -ℤ pos 1)
+    one-off z k = linear≤ (z ∷ []) (gap< k) (search quote depth 20) tt
+
+    clash : (z : ℤ) → z ≤ᶻ pos 0 → NonNegative (z -ℤ pos 1) → ⊥
+    clash z k l = linear⊥ (z ∷ []) (gap≤ k ⊞ l) (search quote depth 20) tt
+
+    one-less : (q : Point) → L q -ℤ pos 1 ≡ affine α β (γ -ℤ pos 1) q
+    one-less q = ap (λ z. z -ℤ pos 1) (fit q) ∙ ring (α ∷ β ∷ γ ∷ coordinates (q ∷ [])) (search quote depth 20) tt
+
+-- all of S on one side of t by a linear functional: so is the hull
+pub strict-half-plane : (α β : ℤ) (t : Point) {S : Point → Type 0} → ((q : Point) → S q → linear α β t <ᶻ linear α β q)
+    → {p : Point} → InHull S p → linear α β t <ᶻ linear α β p
+strict-half-plane α β t h {p} i = by-order (le-or-lt (linear α β p) (linear α β t))
+  where
+    by-order : (linear α β p ≤ᶻ linear α β t) ⊎ (linear α β t <ᶻ linear α β p) → linear α β t <ᶻ linear α β p
+    by-order (inl k) =
+        absurd
+        (keeps-out (λ q. linear α β q -ℤ linear α β t) α β (negℤ (linear α β t))
+        (λ q. ring (α ∷ β ∷ coordinates (q ∷ t ∷ [])) (search quote depth 20) tt)
+        (λ q m. linear< (α ∷ β ∷ coordinates (q ∷ t ∷ [])) (gap< (h q m)) (search quote depth 20) tt)
+        (linear≤ (α ∷ β ∷ coordinates (p ∷ t ∷ [])) (gap≤ k) (search quote depth 20) tt)
+        i)
+    by-order (inr k) = k
+
+-- all of S on the left of an edge, or on it: so is the hull
+pub edge-half-plane : (a b : Point) {S : Point → Type 0} → ((q : Point) → S q → NonNegative (turn a b q))
+    → {p : Point} → InHull S p → NonNegative (turn a b p)
+edge-half-plane a b =
+    half-plane (turn a b) (a .y -ℤ b .y) (b .x -ℤ a .x) ((b .y -ℤ a .y) *ℤ a .x -ℤ (b .x -ℤ a .x) *ℤ a .y)
+    (λ q. ring (coordinates (a ∷ b ∷ q ∷ [])) (search quote depth 20) tt)

@@ -1,4 +1,4 @@
--- What holds of the points, pairs and triples of a list; membership. Assumes nothing.
+-- What holds of the points, pairs, triples and neighbours of a list; membership. Assumes nothing.
 use mathlib.Core.Path.{_≡_, refl, sym, subst}
 use mathlib.Core.Logic.{_⊎_, inl, inr}
 use mathlib.Core.List.{List, [], _∷_, _++_}
@@ -32,6 +32,45 @@ pairs-map R Q (a ∷ l) f h = (
   in-all (Q a) l (λ b m. f a b (inl refl) (inr m) (all-in (R a) l (h .0) b m)),
   pairs-map R Q l (λ u v i j. f u v (inr i) (inr j)) (h .1),
 )
+
+pub pairs-both : (R Q : Point → Point → Type 0) (l : List Point) → Pairs R l → Pairs Q l → Pairs (λ a b. R a b × Q a b) l
+pairs-both R Q [] h g = tt
+pairs-both R Q (a ∷ l) h g = (
+  in-all (λ b. R a b × Q a b) l (λ b m. (all-in (R a) l (h .0) b m, all-in (Q a) l (g .0) b m)),
+  pairs-both R Q l (h .1) (g .1),
+)
+
+-- ---- neighbours
+-- what holds of any two neighbours, of any three
+abbrev pub Chain : (Point → Point → Type 0) → List Point → Type 0
+Chain R [] = Unit {0}
+Chain R (a ∷ []) = Unit {0}
+Chain R (a ∷ b ∷ l) = R a b × Chain R (b ∷ l)
+
+abbrev pub Bends : (Point → Point → Point → Type 0) → List Point → Type 0
+Bends R [] = Unit {0}
+Bends R (a ∷ []) = Unit {0}
+Bends R (a ∷ b ∷ []) = Unit {0}
+Bends R (a ∷ b ∷ c ∷ l) = R a b c × Bends R (b ∷ c ∷ l)
+
+-- a relation that is transitive among the points of the list
+pub chain-pairs : (R : Point → Point → Type 0) (l : List Point)
+    → ((a b c : Point) → In a l → In b l → In c l → R a b → R b c → R a c) → Chain R l → Pairs R l
+chain-pairs R [] f h = tt
+chain-pairs R (a ∷ []) f h = (tt, tt)
+chain-pairs R (a ∷ b ∷ l) f h =
+    let r = chain-pairs R (b ∷ l) (λ u v w i j k. f u v w (inr i) (inr j) (inr k)) (h .1) in
+    ((h .0, in-all (R a) l (λ q m. f a b q (inl refl) (inr (inl refl)) (inr (inr m)) (h .0) (all-in (R b) l (r .0) q m))), r)
+
+pub pairs-chain : (R : Point → Point → Type 0) (l : List Point) → Pairs R l → Chain R l
+pairs-chain R [] h = tt
+pairs-chain R (a ∷ []) h = tt
+pairs-chain R (a ∷ b ∷ l) h = (h .0 .0, pairs-chain R (b ∷ l) (h .1))
+
+pub bends-tail : (R : Point → Point → Point → Type 0) (a : Point) (l : List Point) → Bends R (a ∷ l) → Bends R l
+bends-tail R a [] h = tt
+bends-tail R a (b ∷ []) h = tt
+bends-tail R a (b ∷ c ∷ l) h = h .1
 
 -- ---- two lists, one behind the other
 pub in-left : (q : Point) (l m : List Point) → In q l → In q (l ++ m)

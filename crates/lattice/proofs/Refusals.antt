@@ -4,7 +4,6 @@ use mathlib.Core.Logic.{_⊎_, inl, inr}
 use mathlib.Core.Bool.{true, false}
 use mathlib.Core.List.{List}
 use Prim.Native.Nat.{ℕ, zero, suc, pred, _≤_, _<_, _%_}
-use native.Mathlib.Decide.{decLt}
 use native.Mathlib.Omega.{arith}
 use lib.Dec.{T, ltb, ltb→lt, lt→ltb, eqb, eqb→eq, eqb-refl}
 use lib.ListN.{length}
@@ -28,6 +27,7 @@ use Rattle.lattice.specs.Refusal.{
   rebuildRows,
 }
 use Rattle.lattice.proofs.Lists.{either}
+use Rattle.lattice.proofs.Places.{lt-or-le}
 use Rattle.lattice.proofs.Decide.{
   Decided,
   both,
@@ -44,9 +44,6 @@ use Rattle.lattice.proofs.Decide.{
 }
 
 -- ---- any two outcomes of a table coincide
-pub lt-or-le : (i j : ℕ) → (i < j) ⊎ (j ≤ i)
-lt-or-le i j = elim (decLt i j) [ yes h ↦ inl h | no n ↦ inr (omega arith) ]
-
 not-later : (P : ℕ → Type 0) (i j : ℕ) → First P i → First P j → i ≤ j
 not-later P i j h g = either (lt-or-le j i) (λ l. absurd (h .earlier j l (g .here))) (λ l. l)
 

@@ -2,7 +2,7 @@
 use mathlib.Core.Path.{_≡_}
 use mathlib.Core.List.{List, [], _∷_}
 use lib.IntN.{ℤ, pos, negℤ, _+ℤ_, _-ℤ_, _*ℤ_}
-use Rattle.whole.proofs.Whole.{ring, quote}
+use Rattle.whole.proofs.Whole.{ring, quote, Positive}
 use Rattle.lattice.specs.Point.{Point}
 use Rattle.lattice.specs.Hull.{turn}
 
@@ -19,12 +19,22 @@ affine α β γ p = α *ℤ p .x +ℤ β *ℤ p .y +ℤ γ
 abbrev pub linear : ℤ → ℤ → Point → ℤ
 linear α β p = α *ℤ p .x +ℤ β *ℤ p .y
 
+-- c is on the left of the way from a to b
+abbrev pub Left : Point → Point → Point → Type 0
+Left a b c = Positive (turn a b c)
+
 -- ---- order of the three points
 pub turn-cyclic : (a b c : Point) → turn a b c ≡ turn b c a
 turn-cyclic a b c = ring (coordinates (a ∷ b ∷ c ∷ [])) (search quote depth 20) tt
 
 pub turn-antisymmetric : (a b c : Point) → turn a b c ≡ negℤ (turn b a c)
 turn-antisymmetric a b c = ring (coordinates (a ∷ b ∷ c ∷ [])) (search quote depth 20) tt
+
+pub turn-start : (a b : Point) → turn a b a ≡ pos 0
+turn-start a b = ring (coordinates (a ∷ b ∷ [])) (search quote depth 20) tt
+
+pub turn-end : (a b : Point) → turn a b b ≡ pos 0
+turn-end a b = ring (coordinates (a ∷ b ∷ [])) (search quote depth 20) tt
 
 -- ---- a fourth point
 pub turn-splits : (a b c p : Point) → turn a b p +ℤ turn b c p +ℤ turn c a p ≡ turn a b c
