@@ -1,4 +1,4 @@
--- t
+-- The theory of the lattice, over the definitions of specs/, from the laws of turn up.
 pub mod Turn
 pub mod Lists
 pub mod Places

@@ -83,8 +83,7 @@ columns-order lo hi S f = record {
 -- every list has such a K
 pub list-order : (s : List Point) → (K : ℤ) × Orders K (Of s)
 list-order s =
-    let n = pos (reach s) in
-    (
+    let n = pos (reach s) in (
       width (negℤ n) n,
       columns-order (negℤ n) n (Of s) (λ q m. record { from = reaches s q m .x-from; to = reaches s q m .x-to }),
     )

@@ -1,3 +1,6 @@
 -- Laws of the loops of this crate, and of points in row order as the code holds them.
 pub mod Marking
 pub mod Writing
+pub mod InOrder
+pub mod Reading
+pub mod RowLaws

@@ -5,7 +5,7 @@ use mathlib.Core.List.{List}
 use Prim.Native.Nat.{ℕ, _*_, _-_, _≤_, _<_}
 use lib.ListN.{length, take, drop}
 use lib.IntN.{ℤ}
-use lib.Signed.{_<ℤ_}
+use lib.Signed.{_≤ℤ_, _<ℤ_}
 use Rattle.lattice.specs.Point.{Point, InRange, most, points, point, All, Pairs, Before}
 use Rattle.lattice.specs.Refusal.{Odd}
 use Rattle.order.specs.declared.Ends.{Ends}
@@ -36,3 +36,17 @@ RowEndsPromise list y ends =
 abbrev pub RowPromise : List ℤ → ℤ → List ℤ → Type 0
 RowPromise list y part =
     (ends : Ends) × RowEndsPromise list y ends × (part ≡ take (2 * ends .end - 2 * ends .begin) (drop (2 * ends .begin) list))
+
+-- ---- how the two ends are found
+-- r points from the start are in rows before y, and the next is not
+pub record LeadsTo (l : List Point) (y : ℤ) (r : ℕ) : Type 0 where
+  pub upto : r ≤ length l
+  pub before : (i : ℕ) → i < r → (point l i) .y <ℤ y
+  pub stops : r < length l → y ≤ℤ (point l r) .y
+
+-- the points from begin to r are in row y, and the next is not
+pub record RunsTo (l : List Point) (y : ℤ) (begin r : ℕ) : Type 0 where
+  pub from : begin ≤ r
+  pub upto : r ≤ length l
+  pub within : (i : ℕ) → begin ≤ i → i < r → (point l i) .y ≡ y
+  pub stops : r < length l → (point l r) .y ≡ y → ⊥

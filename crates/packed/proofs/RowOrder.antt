@@ -1,5 +1,5 @@
 -- Row order is the order of packed points, packing and unpacking undo one another, and what is unpacked is in range. Assumes nothing.
-use mathlib.Core.Path.{_≡_, refl, sym, _∙_, ap, subst}
+use mathlib.Core.Path.{_≡_, refl, sym, _∙_, ap, subst₂}
 use mathlib.Core.List.{[], _∷_}
 use Prim.Native.Nat.{ℕ, _+_, _*_, _/_, _%_, _≤_, _<_}
 use native.Mathlib.Omega.{arith}
@@ -10,7 +10,7 @@ use Rattle.whole.proofs.Whole.{ring, quote, _≤ᶻ_, _<ᶻ_, natural, gap≤, 
 use Rattle.lattice.specs.Point.{Point, InRange, Before, row, column}
 use Rattle.lattice.proofs.Lists.{either}
 use Rattle.lattice.proofs.HalfPlane.{point-equal}
-use Rattle.lattice.proofs.Refusals.{lt-or-le}
+use Rattle.lattice.proofs.Places.{lt-or-le}
 use Rattle.packed.specs.Packed.{offset, side, cells, moved, placed, packed, unpacked}
 use Rattle.packed.proofs.Border.{moved-is, moved-small}
 
@@ -78,3 +78,16 @@ pub unpacked-before : (k l : ℕ) → Before (unpacked k) (unpacked l) → k < l
 unpacked-before k l (row r) = omega (arith, order-placed (k / side) (l / side) r)
 unpacked-before k l (column e c) =
     omega (arith, placed-injective (k / side) (l / side) e, order-placed (k % side) (l % side) c)
+
+-- of points in range, by their packed forms
+pub packed-before : (a b : Point) → InRange a → InRange b → packed a < packed b → Before a b
+packed-before a b r s h =
+    let e = unpacked-packed a r in
+    let f = unpacked-packed b s in
+    subst₂ Before e f (before-unpacked (packed a) (packed b) h)
+
+pub before-packed : (a b : Point) → InRange a → InRange b → Before a b → packed a < packed b
+before-packed a b r s h =
+    let e = unpacked-packed a r in
+    let f = unpacked-packed b s in
+    unpacked-before (packed a) (packed b) (subst₂ Before (sym e) (sym f) h)

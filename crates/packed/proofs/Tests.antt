@@ -40,3 +40,7 @@ tells-yes {b} {P} e h = subst (λ t. Tells t P) e h
 
 pub tells-no : {b : Bool} {P : Type 0} → b ≡ false → Tells b P → P → ⊥
 tells-no {b} {P} e h = subst (λ t. Tells t P) e h
+
+pub tells-as : (b : Bool) {P Q : Type 0} → (P → Q) → (Q → P) → Tells b P → Tells b Q
+tells-as true f g h = f h
+tells-as false f g h = λ q. h (g q)
