@@ -16,3 +16,4 @@ pub mod Refusals
 pub mod Grains
 pub mod Numbers
 pub mod Rooms
+pub mod Tables

@@ -4,3 +4,4 @@ pub mod Writing
 pub mod InOrder
 pub mod Reading
 pub mod RowLaws
+pub mod Pinned

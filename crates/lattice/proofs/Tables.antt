@@ -1,0 +1,44 @@
+-- One table of refusals behind another: a call that looks at more rows after those of a call that it contains. Assumes nothing.
+use mathlib.Core.Path.{_≡_, refl}
+use mathlib.Core.Logic.{_⊎_, inl, inr}
+use Prim.Native.Nat.{ℕ, suc}
+use native.Mathlib.Omega.{arith}
+use lib.Dec.{T, ltb, ltb→lt}
+use Rattle.lattice.proofs.Places.{nowhere}
+use Rattle.lattice.specs.Refusal.{First, Table, accepted, _when_else_, Gives, Whole}
+
+-- the rows of t, then those of `later`
+infixr 6 _then_
+abbrev pub _then_ : Table → Table → Table
+accepted then later = later
+(k when P else t) then later = k when P else (t then later)
+
+-- no row has number 0
+abbrev pub Numbered : Table → Type 0
+Numbered accepted = Unit {0}
+Numbered (k when P else t) = T (ltb 0 k) × Numbered t
+
+-- what the first rows give stands
+pub declined-before : (t later : Table) (n i : ℕ) → Gives t (suc n) i → Gives (t then later) (suc n) i
+declined-before accepted later n i h = absurd (never n (h .0))
+  where
+    never : (n : ℕ) → suc n ≡ 0 → ⊥
+    never n e = omega arith
+declined-before (k when P else t) later n i (inl h) = inl h
+declined-before (k when P else t) later n i (inr h) = inr (h .0, declined-before t later n i (h .1))
+
+-- where they give nothing, the later rows decide
+pub passed-before : (t later : Table) → Numbered t → (i n j : ℕ) → Gives t 0 i → Gives later n j → Gives (t then later) n j
+passed-before accepted later m i n j h g = g
+passed-before (k when P else t) later m i n j (inl h) g = absurd (never k (h .0) (m .0))
+  where
+    never : (k : ℕ) → 0 ≡ k → T (ltb 0 k) → ⊥
+    never k e u = omega (arith, ltb→lt 0 k u)
+passed-before (k when P else t) later m i n j (inr h) g = inr (h .0, passed-before t later (m .1) i n j (h .1) g)
+
+-- ---- a row for the call as a whole
+pub whole-here : (k : ℕ) (P : Type 0) (later : Table) → P → Gives (k when Whole P else later) k 0
+whole-here k P later p = inl (refl, record { here = (refl, p); earlier = λ j h _. nowhere j h })
+
+pub whole-not : (k : ℕ) (P : Type 0) (later : Table) (n i : ℕ) → (P → ⊥) → Gives later n i → Gives (k when Whole P else later) n i
+whole-not k P later n i no-fault g = inr ((λ j h. no-fault (h .1)), g)
