@@ -4,3 +4,4 @@ pub mod Rising
 pub mod Buckets
 pub mod Counters
 pub mod Passes
+pub mod Sorted
