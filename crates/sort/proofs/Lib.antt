@@ -1,7 +1,9 @@
--- The theory of the sort. Sorted and Repeats are for callers; the others serve the functions' own proofs.
+-- The theory of the sort. `Sorted` and `Repeats` have what callers cite; the others serve the proofs of the crate's own functions.
 pub mod Cases
 pub mod Rising
+pub mod Sorted
+pub mod Repeats
+pub mod Insertion
 pub mod Buckets
 pub mod Counters
 pub mod Passes
-pub mod Sorted
