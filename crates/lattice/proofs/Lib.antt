@@ -11,6 +11,8 @@ pub mod RowKey
 pub mod Shape
 pub mod Polygon
 pub mod Sandwich
+pub mod Scan
+pub mod Stack
 pub mod Frame
 pub mod Refusals
 pub mod Grains
