@@ -13,6 +13,10 @@ pub mod Polygon
 pub mod Sandwich
 pub mod Scan
 pub mod Stack
+pub mod BothChains
 pub mod Frame
 pub mod Refusals
+pub mod SameMembers
+pub mod RowLists
+pub mod ScanAll
 pub mod Grains
