@@ -19,4 +19,8 @@ pub mod Refusals
 pub mod SameMembers
 pub mod RowLists
 pub mod ScanAll
+pub mod CornerLists
+pub mod MissingLists
+pub mod Demand
+pub mod RowEnds
 pub mod Grains
