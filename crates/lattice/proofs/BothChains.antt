@@ -1,5 +1,5 @@
--- Both scans in one array: places 0 to m + 1 hold the chain of the scan up the rows, m + 1 to m + 1 + k that of the scan down but for its end, which
--- is place 0 again. Then the list of all these places spans the points. Assumes that x + K y orders the points by rows.
+-- Both scans in one array: places 0 to m + 1 hold the chain of the scan up the rows, m + 1 to m + 1 + k that of the scan down but for its
+-- end, which is place 0 again. Then the list of all these places spans the points. Assumes that x + K y orders the points by rows.
 use mathlib.Core.Path.{_≡_, refl, sym, _∙_, ap, subst, subst₂, subst₃}
 use mathlib.Core.Logic.{_⊎_, inl, inr}
 use mathlib.Core.List.{List, [], _∷_}
@@ -23,12 +23,11 @@ use Rattle.whole.proofs.Whole.{
 }
 use Rattle.lattice.specs.Point.{Point, InRange, point, In, All, Pairs, Triples, Before}
 use Rattle.lattice.specs.Hull.{turn, Of}
-use Rattle.lattice.proofs.Turn.{coordinates, linear, Left, turn-cyclic}
+use Rattle.lattice.proofs.Turn.{coordinates, Left, turn-cyclic}
 use Rattle.lattice.proofs.Lists.{either, all-in}
-use Rattle.lattice.proofs.Places.{lt-or-le, nowhere, in-place, place-in}
-use Rattle.lattice.proofs.RowOrder.{before-irreflexive}
+use Rattle.lattice.proofs.Places.{lt-or-le, in-place, place-in}
 use Rattle.lattice.proofs.RowKey.{along, Orders, opposite-back, before-key, key-before}
-use Rattle.lattice.proofs.Shape.{Shape, ShapeTest, shape-test}
+use Rattle.lattice.proofs.Shape.{Shape, shape-test}
 use Rattle.lattice.proofs.Polygon.{Inside, polygon}
 use Rattle.lattice.proofs.Sandwich.{Spans}
 use Rattle.lattice.proofs.Scan.{Scanned, Over, bottom, stack-rises, stack-turns}
@@ -91,7 +90,8 @@ module _ (K : ℤ) (s : List Point) (order : Orders K (Of s)) (f : ℕ → Point
 
   down-end : (j : ℕ) → j < suc k → along K (f zero) <ᶻ along K (g j)
   down-end j h =
-      opposite-back K (f zero) (g j) (all-in (Over (negsuc 0) (negℤ K) (f zero)) (stack g (suc k)) (down-pairs .0) (g j) (stack-in g (suc k) j h))
+      opposite-back K (f zero) (g j)
+      (all-in (Over (negsuc 0) (negℤ K) (f zero)) (stack g (suc k)) (down-pairs .0) (g j) (stack-in g (suc k) j h))
 
   down-falls : (i j : ℕ) → i < j → j < suc k → along K (g j) <ᶻ along K (g i)
   down-falls i j h l = opposite-back K (g j) (g i) (stack-pairs-place g (Over (negsuc 0) (negℤ K)) (suc k) (down-pairs .1) i j h l)
@@ -138,7 +138,8 @@ module _ (K : ℤ) (s : List Point) (order : Orders K (Of s)) (f : ℕ → Point
   at-top (suc i) e h =
       positive-by-products (junction K (f zero) (f (suc i)) z u)
       (gap (f zero) z (up-rises zero (suc (suc i)) (omega arith) (omega arith)))
-      (gap u z (on-way-down (λ a b. along K b <ᶻ along K a) (λ j n. down-falls j (suc j) (omega arith) n) (suc (suc i)) (omega arith) (omega arith)))
+      (gap u z (on-way-down (λ a b. along K b <ᶻ along K a) (λ j n. down-falls j (suc j) (omega arith) n)
+      (suc (suc i)) (omega arith) (omega arith)))
       (subst Positive (turn-cyclic (f zero) (f (suc i)) z) (up-turns zero (suc i) (suc (suc i)) (omega arith) (omega arith) (omega arith)))
       (gap (f (suc i)) z (up-rises (suc i) (suc (suc i)) (omega arith) (omega arith)))
       (subst Positive (turn-cyclic (f zero) z u) (seen (suc i) h))
@@ -187,15 +188,24 @@ module _ (K : ℤ) (s : List Point) (order : Orders K (Of s)) (f : ℕ → Point
 
   within : (q : Point) → In q s → Inside places q
   within q n = record {
-    edges = λ i h. subst₂ (λ u v. NonNegative (turn u v q)) (sym (at i (omega arith))) (sym (at (suc i) h)) (edges q n i (omega (arith, below h)));
+    edges = λ i h. subst₂ OnLeft (sym (at i (omega arith))) (sym (at (suc i) h)) (edges q n i (omega (arith, below h)));
     closing = λ i e. let d : suc m + k ≡ i = omega (arith, length-front f (suc m + suc k)) in
-        subst₂ (λ u v. NonNegative (turn u v q)) (ap f d ∙ sym (at i (omega arith))) (sym (at zero (omega arith))) (down .stacked .left q n .0);
+        subst₂ OnLeft (ap f d ∙ sym (at i (omega arith))) (sym (at zero (omega arith))) (down .stacked .left q n .0);
     from = (f zero, listed zero (omega arith), λ h. not-lower (order .rises q (f zero) n (held zero (omega arith)) h));
-    to = (f (suc m), listed (suc m) (omega arith), λ h. not-higher (order .rises (f (suc m)) q (held (suc m) (omega arith)) n h) (up .highest q n));
+    to = (
+      f (suc m),
+      listed (suc m) (omega arith),
+      λ h. not-higher (order .rises (f (suc m)) q (held (suc m) (omega arith)) n h) (up .highest q n),
+    );
   }
     where
+      OnLeft : Point → Point → Type 0
+      OnLeft u v = NonNegative (turn u v q)
+
       listed : (i : ℕ) → i < suc m + suc k → In (f i) places
-      listed i h = subst (λ z. In z places) (at i (omega (arith, length-front f (suc m + suc k)))) (place-in places i (omega (arith, length-front f (suc m + suc k))))
+      listed i h =
+          let l : i < length places = omega (arith, length-front f (suc m + suc k)) in
+          subst (λ z. In z places) (at i l) (place-in places i l)
 
       not-lower : along K q <ᶻ along K (f zero) → ⊥
       not-lower h =
@@ -203,7 +213,8 @@ module _ (K : ℤ) (s : List Point) (order : Orders K (Of s)) (f : ℕ → Point
           (gap< h ⊞ gap≤ (subst (λ z. along K z ≤ᶻ along K q) (bottom-stack f (suc m)) (up .stacked .lowest q n))) (search quote depth 20) tt
 
       not-higher : along K (f (suc m)) <ᶻ along K q → (q ≡ f (suc m)) ⊎ (along K q <ᶻ along K (f (suc m))) → ⊥
-      not-higher h (inl e) = linear⊥ (K ∷ coordinates (q ∷ [])) (gap< (subst (λ z. along K z <ᶻ along K q) (sym e) h)) (search quote depth 20) tt
+      not-higher h (inl e) =
+          linear⊥ (K ∷ coordinates (q ∷ [])) (gap< (subst (λ z. along K z <ᶻ along K q) (sym e) h)) (search quote depth 20) tt
       not-higher h (inr l) = linear⊥ (K ∷ coordinates (q ∷ f (suc m) ∷ [])) (gap< h ⊞ gap< l) (search quote depth 20) tt
 
   pub chains-span : Spans s places

@@ -1,16 +1,16 @@
--- Every list of points has one corner list; it has the same hull, and depends only on which points the list holds. The corner lists are the lists of
--- the shape, each the corner list of itself. The hull of the hull adds nothing. Assumes nothing.
-use mathlib.Core.Path.{_≡_, refl, sym, subst}
-use mathlib.Core.Logic.{inl, inr, _↔_}
+-- Every list of points has one corner list; it has the same hull, and depends only on which points the list holds. The corner lists are
+-- the lists of the shape, each the corner list of itself. The hull of the hull adds nothing. Assumes nothing.
+use mathlib.Core.Path.{_≡_, subst}
+use mathlib.Core.Logic.{_↔_}
 use mathlib.Core.List.{List, [], _∷_, _++_}
-use Rattle.lattice.specs.Point.{Point, In, All}
-use Rattle.lattice.specs.Hull.{InHull, member, Of, Rest, Corner, CornerList}
+use Rattle.lattice.specs.Point.{Point, All}
+use Rattle.lattice.specs.Hull.{InHull, Of, Rest, Corner, CornerList}
 use Rattle.lattice.proofs.Lists.{all-in, in-all, in-left, in-right, in-cases, all-map, either}
 use Rattle.lattice.proofs.HullLaws.{hull-larger, hull-of-few}
-use Rattle.lattice.proofs.Shape.{Shape}
+use Rattle.lattice.proofs.Shape.{Shape, ShapeTest, shape-test}
 use Rattle.lattice.proofs.Polygon.{hull-inside, polygon}
-use Rattle.lattice.proofs.Sandwich.{Spans, hull-of-spanned, corner-list-of-spanned}
-use Rattle.lattice.proofs.SameMembers.{Subset, Same, shape-unique}
+use Rattle.lattice.proofs.Sandwich.{Spans, spans-itself, hull-of-spanned, corner-list-of-spanned}
+use Rattle.lattice.proofs.SameMembers.{Same, shape-unique}
 use Rattle.lattice.proofs.ScanAll.{spans-exist}
 
 pub corner-list-exists : (s : List Point) → (c : List Point) × CornerList s c
@@ -55,10 +55,15 @@ corner-list-same s t e c h = record {
 -- ---- the corner lists are the lists of the shape
 pub shape-corner-list : (c : List Point) → Shape c ↔ CornerList c c
 shape-corner-list c = (
-  (λ h. corner-list-of-spanned c c (record { shape = h; inside = λ q m. m; cover = λ q m. member m })),
+  (λ h. corner-list-of-spanned c c (spans-itself c h)),
   corner-list-shape c c,
 )
 
+-- the linear test decides whether c is a corner list
+pub corner-list-test : (c : List Point) → ShapeTest c ↔ CornerList c c
+corner-list-test c = ((λ t. shape-corner-list c .0 (shape-test c .0 t)), (λ h. shape-test c .1 (shape-corner-list c .1 h)))
+
+-- c is the corner list of itself exactly if it is that of some list
 pub corner-list-of-some : (c : List Point) → CornerList c c ↔ ((s : List Point) × CornerList s c)
 corner-list-of-some c = ((λ h. (c, h)), (λ h. shape-corner-list c .0 (corner-list-shape (h .0) c (h .1))))
 
@@ -78,7 +83,8 @@ few-behind S (a ∷ l) h =
     )
 
 -- points in the hull of a list add nothing to it
-pub hull-of-list : (t : List Point) (M : Point → Type 0) → ((q : Point) → M q → InHull (Of t) q) → (p : Point) → InHull M p → InHull (Of t) p
+pub hull-of-list : (t : List Point) (M : Point → Type 0) → ((q : Point) → M q → InHull (Of t) q)
+    → (p : Point) → InHull M p → InHull (Of t) p
 hull-of-list t M f p h =
     let c = spans-exist t in
     let within = hull-of-spanned t (c .0) (c .1) in

@@ -1,10 +1,10 @@
--- Corners and missing points tell the points: equal lists mean equal grains, the points are the hull of the corners without the missing points, and what
--- Rebuild makes of corners and missing points has them again. Assumes nothing.
+-- Corners and missing points tell the points: equal lists mean equal grains, the points are the hull of the corners without the missing
+-- points, and what Rebuild makes of corners and missing points has them again. Assumes nothing.
 use mathlib.Core.Path.{_≡_, sym, subst}
-use mathlib.Core.Logic.{_⊎_, inl, inr, _↔_}
-use mathlib.Core.List.{List, [], _∷_}
+use mathlib.Core.Logic.{inl, inr, _↔_}
+use mathlib.Core.List.{List}
 use Rattle.lattice.specs.Point.{Point, In, All, Pairs, Before, Lists}
-use Rattle.lattice.specs.Hull.{InHull, member, Of, Corner, CornerList, Missing, MissingList, Kept}
+use Rattle.lattice.specs.Hull.{InHull, member, Of, CornerList, MissingList, Kept}
 use Rattle.lattice.specs.Refusal.{Misplaced}
 use Rattle.lattice.proofs.Lists.{either, all-in}
 use Rattle.lattice.proofs.Decide.{yes-or-no, in?, hull?}

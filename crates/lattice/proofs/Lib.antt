@@ -23,4 +23,5 @@ pub mod CornerLists
 pub mod MissingLists
 pub mod Demand
 pub mod RowEnds
+pub mod Slips
 pub mod Grains

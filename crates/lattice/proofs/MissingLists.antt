@@ -1,9 +1,9 @@
--- Every list of points has one missing list; it depends only on which points the list holds; it is empty exactly if the list is convex; and it is as long
--- as the hull has lattice points less the points held. Assumes nothing.
-use mathlib.Core.Path.{_≡_, refl, sym, subst}
-use mathlib.Core.Logic.{inl, inr, _↔_}
+-- Every list of points has one missing list; it depends only on which points the list holds; it is empty exactly if the list is convex;
+-- and it is as long as the hull has lattice points less the points held. Assumes nothing.
+use mathlib.Core.Path.{_≡_, refl, subst}
+use mathlib.Core.Logic.{inl, _↔_}
 use mathlib.Core.List.{List, [], _∷_}
-use Prim.Native.Nat.{ℕ, _+_}
+use Prim.Native.Nat.{_+_}
 use native.Mathlib.Omega.{arith}
 use lib.ListN.{length}
 use Rattle.lattice.specs.Point.{Point, In, Pairs, Lists}

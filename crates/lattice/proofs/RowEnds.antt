@@ -1,12 +1,12 @@
 -- Points of a segment are no corners: only the two ends of a row can be, and a list that is spanned by its row ends has their corner list.
 -- Assumes nothing.
-use mathlib.Core.Path.{_≡_, sym, _∙_, ap, subst}
-use mathlib.Core.Logic.{_⊎_, inl, inr}
+use mathlib.Core.Path.{_≡_, sym, _∙_, subst}
+use mathlib.Core.Logic.{inl}
 use mathlib.Core.List.{List, [], _∷_}
-use lib.IntN.{ℤ, pos, negsuc, _-ℤ_}
-use Rattle.whole.proofs.Whole.{quote, _≤ᶻ_, _<ᶻ_, gap<, _⋆≡_, _⊞_, linear⊥, linear≡, _∗≡_, _∔_, le-of-equal, le-of-lt}
+use lib.IntN.{pos, _-ℤ_}
+use Rattle.whole.proofs.Whole.{quote, _≤ᶻ_, gap<, _⋆≡_, _⊞_, linear⊥, linear≡, _∗≡_, _∔_, le-of-equal, le-of-lt}
 use Rattle.lattice.specs.Point.{Point, In, Before, row, column}
-use Rattle.lattice.specs.Hull.{OnSegment, InHull, segment, Of, Rest, Corner, CornerList}
+use Rattle.lattice.specs.Hull.{OnSegment, InHull, segment, Of, Corner, CornerList}
 use Rattle.lattice.proofs.Turn.{coordinates}
 use Rattle.lattice.proofs.RowOrder.{before-irreflexive}
 use Rattle.lattice.proofs.Sandwich.{Spans, hull-of-spanned}

@@ -1,12 +1,13 @@
--- Lists in row order: whatever can be tested and lies in the hull of a list can be listed, and in how many points such lists differ. Assumes nothing.
-use mathlib.Core.Path.{_≡_, refl, sym, _∙_, ap, subst}
-use mathlib.Core.Logic.{_⊎_, inl, inr}
+-- Lists in row order: whatever can be tested and lies in the hull of a list can be listed, and in how many points such lists differ.
+-- Assumes nothing.
+use mathlib.Core.Path.{_≡_, refl, sym, ap}
+use mathlib.Core.Logic.{inl, inr}
 use mathlib.Core.Bool.{Bool, true, false, not, cond}
 use mathlib.Core.List.{List, [], _∷_}
-use Prim.Native.Nat.{ℕ, zero, suc, _+_}
+use Prim.Native.Nat.{ℕ, suc, _+_}
 use native.Mathlib.Omega.{arith}
 use lib.ListN.{length}
-use lib.IntN.{ℤ, pos, negsuc, negℤ, _+ℤ_}
+use lib.IntN.{ℤ, pos, negℤ, _+ℤ_}
 use Rattle.whole.proofs.Whole.{quote, _≤ᶻ_, _<ᶻ_, gap≤, linear<}
 use Rattle.lattice.specs.Point.{Point, In, Pairs, Before, Lists}
 use Rattle.lattice.specs.Hull.{InHull, member, Of}
@@ -78,8 +79,11 @@ row-order-length [] [] h g = refl
 row-order-length [] (a ∷ o) h g = absurd (g .only a (inl refl))
 row-order-length (a ∷ s) o h g =
     let n = row-order-exists s in
-    omega (arith, lists-split (Of (a ∷ s)) (λ p. p ≡ a) (λ p. same? p a) o (a ∷ []) (n .0) g head (rest (n .0) (n .1)),
-    row-order-length s (n .0) (h .1) (n .1))
+    omega (
+      arith,
+      lists-split (Of (a ∷ s)) (λ p. p ≡ a) (λ p. same? p a) o (a ∷ []) (n .0) g head (rest (n .0) (n .1)),
+      row-order-length s (n .0) (h .1) (n .1),
+    )
   where
     head : Lists (λ p. In p (a ∷ s) × (p ≡ a)) (a ∷ [])
     head = record { every = λ p m. inl (m .1); only = λ p m. either m (λ e. (inl e, e)) (λ f. absurd f); order = (tt, tt) }

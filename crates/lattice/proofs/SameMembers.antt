@@ -2,7 +2,6 @@
 use mathlib.Core.Path.{_≡_, refl, sym, _∙_, subst}
 use mathlib.Core.Logic.{inl, inr}
 use mathlib.Core.List.{List, [], _∷_}
-use lib.IntN.{ℤ}
 use Rattle.whole.proofs.Whole.{quote, gap<, _⊞_, linear⊥}
 use Rattle.lattice.specs.Point.{Point, In, All, Pairs, Before, Lists}
 use Rattle.lattice.proofs.Turn.{coordinates, Left}

@@ -1,5 +1,5 @@
--- One scan of the points in the order of a linear functional (α, β): a stack of points, its top first, that turns left from its bottom up and has
--- all points passed on the left of its edges. Start, pop, push. The scan the other way is the same at (−α, −β). Assumes nothing.
+-- One scan of the points in the order of a linear functional (α, β): a stack of points, its top first, that turns left from its bottom up
+-- and has all points passed on the left of its edges. Start, pop, push. The scan the other way is the same at (−α, −β). Assumes nothing.
 use mathlib.Core.Path.{_≡_, refl, sym, subst}
 use mathlib.Core.Logic.{_⊎_, inl, inr}
 use mathlib.Core.List.{List, [], _∷_}
@@ -22,9 +22,9 @@ use Rattle.whole.proofs.Whole.{
   le-of-lt,
   nonnegative-by-products,
 }
-use Rattle.lattice.specs.Point.{Point, In, All, Pairs, Triples}
+use Rattle.lattice.specs.Point.{Point, All, Pairs, Triples}
 use Rattle.lattice.specs.Hull.{turn, Of}
-use Rattle.lattice.proofs.Turn.{coordinates, linear, Left, three-vectors, turn-start, turn-end}
+use Rattle.lattice.proofs.Turn.{coordinates, linear, Left, three-vectors, start-on-edge, end-on-edge}
 use Rattle.lattice.proofs.Lists.{either, all-map, pairs-map, Chain, Bends, chain-pairs, pairs-chain, bends-tail}
 use Rattle.lattice.proofs.Shape.{triples-of-bends}
 
@@ -47,7 +47,8 @@ module _ (α β : ℤ) where
   abbrev pub Over : Point → Point → Type 0
   Over u v = linear α β v <ᶻ linear α β u
 
-  -- the stack t ∷ r, where M has been passed: it rises, it bends to the left, all of M is on the left of its edges, it is of M, and none of M is lower
+  -- the stack t ∷ r, where M has been passed: it rises, it bends to the left, all of M is on the left of its edges or on them, it is of M,
+  -- and none of M is lower
   pub record Stacked (M : Point → Type 0) (t : Point) (r : List Point) : Type 0 where
     pub rising : Chain Over (t ∷ r)
     pub bent : Bends (λ u v w. Left w v u) (t ∷ r)
@@ -125,7 +126,7 @@ module _ (α β : ℤ) where
       stacked = h .stacked;
       next = n;
       side = λ q m g. either (h .highest q m)
-          (λ e. subst (λ z. NonNegative (turn t p z)) (sym e) (le-of-equal (sym (turn-start t p))))
+          (λ e. subst (λ z. NonNegative (turn t p z)) (sym e) (start-on-edge t p))
           (λ l. linear⊥ (α ∷ β ∷ coordinates (t ∷ q ∷ [])) (gap< l ⊞ gap≤ g) (search quote depth 20) tt);
       beyond = λ q m. either (h .highest q m) (λ e. subst (Over p) (sym e) n) (over-transitive p t q n);
     }
@@ -154,14 +155,16 @@ module _ (α β : ℤ) where
     over-top s t q = ring (α ∷ β ∷ coordinates (s ∷ t ∷ p ∷ q ∷ [])) (search quote depth 20) tt
 
     -- what lies lower than the top is on the left of the new edge
-    under-top : (t : Point) (r : List Point) → Popping M p t r → TurnsLeft p t r → (q : Point) → M q → Over t q → NonNegative (turn t p q)
+    under-top : (t : Point) (r : List Point) → Popping M p t r → TurnsLeft p t r
+        → (q : Point) → M q → Over t q → NonNegative (turn t p q)
     under-top t [] h g q m l =
         linear⊥ (α ∷ β ∷ coordinates (t ∷ q ∷ [])) (gap< l ⊞ gap≤ (h .stacked .lowest q m)) (search quote depth 20) tt
     under-top t (s ∷ r) h g q m l =
         nonnegative-by-products (over-top s t q) (rise t s (h .stacked .rising .0)) (le-of-lt (rise t q l)) (le-of-lt g)
         (le-of-lt (rise p t (h .next))) (h .stacked .left q m .0)
 
-    new-bend : (t : Point) (r : List Point) → TurnsLeft p t r → Bends (λ u v w. Left w v u) (t ∷ r) → Bends (λ u v w. Left w v u) (p ∷ t ∷ r)
+    new-bend : (t : Point) (r : List Point) → TurnsLeft p t r → Bends (λ u v w. Left w v u) (t ∷ r)
+        → Bends (λ u v w. Left w v u) (p ∷ t ∷ r)
     new-bend t [] g h = tt
     new-bend t (s ∷ r) g h = (g, h)
 
@@ -178,7 +181,8 @@ module _ (α β : ℤ) where
         rising = (h .next, h .stacked .rising);
         bent = new-bend t r g (h .stacked .bent);
         left = λ q m. either m
-            (λ e. subst (λ z. Chain (λ u v. NonNegative (turn v u z)) (p ∷ t ∷ r)) (sym e) (le-of-equal (sym (turn-end t p)), over-edges t r h g))
+            (λ e. subst (λ z. Chain (λ u v. NonNegative (turn v u z)) (p ∷ t ∷ r)) (sym e)
+            (end-on-edge t p, over-edges t r h g))
             (λ i. (either (le-or-lt (linear α β t) (linear α β q)) (h .side q i) (under-top t r h g q i), h .stacked .left q i));
         passed = (inl refl, all-map M (With p M) (λ q m. inr m) (t ∷ r) (h .stacked .passed));
         lowest = λ q m. either m (λ e. subst (λ z. linear α β (bottom t r) ≤ᶻ linear α β z) (sym e) low-p) (h .stacked .lowest q);

@@ -2,21 +2,20 @@
 use mathlib.Core.Path.{_≡_, refl, sym, _∙_, ap, subst, subst₂}
 use mathlib.Core.Logic.{_⊎_, inl, inr}
 use mathlib.Core.List.{List, [], _∷_}
-use Prim.Native.Nat.{ℕ, zero, suc, _+_, _-_, _<_}
+use Prim.Native.Nat.{ℕ, zero, suc, _+_, _-_}
 use native.Mathlib.Omega.{arith}
 use lib.IntN.{ℤ, pos, negsuc, negℤ}
-use Rattle.whole.proofs.Whole.{quote, _≤ᶻ_, _<ᶻ_, gap≤, gap<, _⊞_, linear⊥, le-or-lt}
-use Rattle.lattice.specs.Point.{Point, In, All, Pairs, Before, Lists}
-use Rattle.lattice.specs.Hull.{turn, member, Of}
-use Rattle.lattice.proofs.Turn.{coordinates, linear}
-use Rattle.lattice.proofs.Lists.{either, all-in, pairs-map, Chain, pairs-chain}
+use Rattle.whole.proofs.Whole.{quote, _<ᶻ_, gap≤, gap<, _⊞_, linear⊥, le-or-lt}
+use Rattle.lattice.specs.Point.{Point, In, All, Pairs, Before}
+use Rattle.lattice.specs.Hull.{turn, Of}
+use Rattle.lattice.proofs.Turn.{coordinates}
+use Rattle.lattice.proofs.Lists.{either, pairs-map, Chain, pairs-chain}
 use Rattle.lattice.proofs.RowKey.{along, Orders, list-order, opposite, opposite-back}
-use Rattle.lattice.proofs.Sandwich.{Spans}
+use Rattle.lattice.proofs.Sandwich.{Spans, spans-itself}
 use Rattle.lattice.proofs.Scan.{
   bottom,
   With,
   Over,
-  Stacked,
   Scanned,
   Popping,
   scan-start,
@@ -25,7 +24,7 @@ use Rattle.lattice.proofs.Scan.{
   pop-step,
   push,
 }
-use Rattle.lattice.proofs.Stack.{stack, front, stack-agrees, stack-in, splice, splice-low, splice-high}
+use Rattle.lattice.proofs.Stack.{stack, front, stack-agrees, splice, splice-low, splice-high}
 use Rattle.lattice.proofs.BothChains.{Upward, Downward, bottom-stack, chains-span}
 use Rattle.lattice.proofs.RowLists.{row-order-exists}
 
@@ -130,12 +129,14 @@ module _ (K : ℤ) (s : List Point) (order : Orders K (Of s)) (f g : ℕ → Poi
       top =
           let e : suc m - suc m ≡ 0 = omega arith in
           splice-high f g (suc m) (suc m) (omega arith) ∙ ap g e ∙ sym (bottom-stack g (suc k))
-          ∙ ends-meet (negsuc 0) (negℤ K) (Of s) (pos 1) K (λ u v. opposite K v u) (g (suc k)) (stack g (suc k)) (f (suc m)) (stack f (suc m)) down up
+          ∙ ends-meet (negsuc 0) (negℤ K) (Of s) (pos 1) K (λ u v. opposite K v u)
+          (g (suc k)) (stack g (suc k)) (f (suc m)) (stack f (suc m)) down up
 
       start : h zero ≡ g (suc k)
       start =
           sym (bottom-stack f (suc m))
-          ∙ ends-meet (pos 1) K (Of s) (negsuc 0) (negℤ K) (λ u v. opposite-back K u v) (f (suc m)) (stack f (suc m)) (g (suc k)) (stack g (suc k)) up down
+          ∙ ends-meet (pos 1) K (Of s) (negsuc 0) (negℤ K) (λ u v. opposite-back K u v)
+          (f (suc m)) (stack f (suc m)) (g (suc k)) (stack g (suc k)) up down
 
   -- two points at least
   both-scans : (a b : Point) → In a s → In b s → along K a <ᶻ along K b → (n j : ℕ)
@@ -147,9 +148,8 @@ module _ (K : ℤ) (s : List Point) (order : Orders K (Of s)) (f g : ℕ → Poi
 
 -- a list in row order
 spans-in-order : (s : List Point) → Pairs Before s → (c : List Point) × Spans s c
-spans-in-order [] h = ([], record { shape = record { start = tt; three = tt }; inside = λ q m. m; cover = λ q m. member m })
-spans-in-order (a ∷ []) h =
-    (a ∷ [], record { shape = record { start = tt; three = (tt, tt) }; inside = λ q m. m; cover = λ q m. member m })
+spans-in-order [] h = ([], spans-itself [] (record { start = tt; three = tt }))
+spans-in-order (a ∷ []) h = (a ∷ [], spans-itself (a ∷ []) (record { start = tt; three = (tt, tt) }))
 spans-in-order (a ∷ b ∷ l) h =
     both-scans K (a ∷ b ∷ l) order (up .places) (down .places) a b (inl refl) (inr (inl refl)) (rising .0) (up .height) (down .height)
     (subst (λ t. Upward K (Of (a ∷ b ∷ l)) t (stack (up .places) (up .height))) (sym (up .top)) (up .scanned))

@@ -1,7 +1,8 @@
--- Points kept by place, f 0, f 1, and so on: the first n of them as a list, and as a stack, the last first. Assumes nothing of how they are stored.
-use mathlib.Core.Path.{_≡_, refl, sym, _∙_, ap, subst}
+-- Points kept by place, f 0, f 1, and so on: the first n of them as a list, and as a stack, the last first. Assumes nothing of how they
+-- are stored.
+use mathlib.Core.Path.{_≡_, refl, _∙_, ap, subst}
 use mathlib.Core.Logic.{inl, inr}
-use mathlib.Core.List.{List, [], _∷_, _++_, reverse, reverseAux}
+use mathlib.Core.List.{List, [], _∷_, reverse, reverseAux}
 use Prim.Native.Nat.{ℕ, zero, suc, _-_, _≤_, _<_}
 use native.Mathlib.Omega.{arith}
 use lib.ListN.{length, take}
