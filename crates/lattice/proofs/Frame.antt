@@ -1,12 +1,11 @@
--- Frames: the lattice points of a rectangle, row by row. A frame that holds S holds its hull, and going through it lists the points that pass a
--- test, in row order. Assumes nothing.
-use mathlib.Core.Path.{_≡_, refl, sym, _∙_, ap, subst}
-use mathlib.Core.Logic.{_⊎_, inl, inr}
+-- Frames: the lattice points of a rectangle, row by row. A frame that holds S holds its hull, and going through it lists the points that
+-- pass a test, in row order. Assumes nothing.
+use mathlib.Core.Path.{_≡_, sym, _∙_, ap, subst}
+use mathlib.Core.Logic.{inl, inr}
 use mathlib.Core.List.{List, [], _∷_, _++_}
 use Prim.Native.Nat.{ℕ, zero, suc, _+_}
 use native.Mathlib.Omega.{arith}
-use lib.IntN.{ℤ, pos, negsuc, negℤ, _+ℤ_, _-ℤ_, _*ℤ_}
-use lib.Signed.{_≤ℤ_, _<ℤ_}
+use lib.IntN.{ℤ, pos, negsuc, negℤ, _+ℤ_, _-ℤ_}
 use Rattle.whole.proofs.Whole.{
   ring,
   quote,
@@ -23,7 +22,7 @@ use Rattle.whole.proofs.Whole.{
   le-or-lt,
   antisymmetric,
 }
-use Rattle.lattice.specs.Point.{Point, In, Pairs, Before, row, column, Lists}
+use Rattle.lattice.specs.Point.{Point, least, InRange, In, Pairs, Before, row, column, Lists}
 use Rattle.lattice.specs.Hull.{InHull}
 use Rattle.lattice.proofs.Turn.{coordinates}
 use Rattle.lattice.proofs.Lists.{either, in-all, in-left, in-right, in-cases, pairs-append}
@@ -140,3 +139,22 @@ listed-by-frame P d x y w h f = record {
   only = λ p m. keep-in P d (frame x y w h) p m .1;
   order = pairs-keep P d Before (frame x y w h) (frame-order x y w h);
 }
+
+-- ---- the range is a frame, so the hull of points in range is in range
+pub hull-in-range : (S : Point → Type 0) → ((q : Point) → S q → InRange q) → (p : Point) → InHull S p → InRange p
+hull-in-range S f p i =
+    let r = hull-framed least least 16384 16384 S framed p i in
+    record {
+      x-from = r .left;
+      x-to = linear≤ (p .x ∷ []) (gap< (r .right)) (search quote depth 20) tt;
+      y-from = r .low;
+      y-to = linear≤ (p .y ∷ []) (gap< (r .high)) (search quote depth 20) tt;
+    }
+  where
+    framed : (q : Point) → S q → Framed least least 16384 16384 q
+    framed q m = record {
+      left = f q m .x-from;
+      right = linear< (q .x ∷ []) (gap≤ (f q m .x-to)) (search quote depth 20) tt;
+      low = f q m .y-from;
+      high = linear< (q .y ∷ []) (gap≤ (f q m .y-to)) (search quote depth 20) tt;
+    }

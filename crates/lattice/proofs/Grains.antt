@@ -1,14 +1,14 @@
 -- The table of lettered grains holds, by one computed test for all of its rows. Assumes nothing.
-use mathlib.Core.Path.{_≡_, refl, sym, subst}
+use mathlib.Core.Path.{_≡_, refl, subst}
 use mathlib.Core.Logic.{inl}
 use mathlib.Core.Bool.{Bool, true, false, _&&_}
 use mathlib.Core.List.{List, [], _∷_}
 use Prim.Native.Nat.{ℕ, zero, suc}
 use native.Mathlib.Omega.{arith}
 use lib.Dec.{T, eqb, eqb→eq}
-use lib.IntN.{ℤ, pos}
-use Rattle.lattice.specs.Point.{Point, origin, In, All, Lists}
-use Rattle.lattice.specs.Hull.{Of, InHull, Missing, MissingList, Kept, CornerList}
+use lib.IntN.{pos}
+use Rattle.lattice.specs.Point.{Point, All, Lists}
+use Rattle.lattice.specs.Hull.{Of, InHull, Missing, MissingList, Kept}
 use Rattle.lattice.specs.Refusal.{accepted, Gives, rebuildRows}
 use Rattle.lattice.specs.Grains.{Row, grain, rebuild, Verdict, firstOf, Holds, AllHold, grains}
 use Rattle.lattice.proofs.Lists.{all-in}

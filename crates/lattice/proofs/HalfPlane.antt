@@ -1,10 +1,9 @@
--- An integer affine functional that is at least 0 on S is at least 0 on the hull of S; one that is at least 1 on S and at most 0 at p keeps p out
--- of the hull. Assumes nothing.
-use mathlib.Core.Path.{_≡_, refl, sym, _∙_, ap, subst}
+-- An integer affine functional that is at least 0 on S is at least 0 on the hull of S; one that is at least 1 on S and at most 0 at p
+-- keeps p out of the hull. Assumes nothing.
+use mathlib.Core.Path.{_≡_, sym, _∙_, ap, subst}
 use mathlib.Core.Logic.{_⊎_, inl, inr}
-use mathlib.Core.List.{List, [], _∷_}
-use lib.IntN.{ℤ, pos, negsuc, negℤ, _+ℤ_, _-ℤ_, _*ℤ_}
-use lib.Signed.{_≤ℤ_, _<ℤ_}
+use mathlib.Core.List.{[], _∷_}
+use lib.IntN.{ℤ, pos, negℤ, _+ℤ_, _-ℤ_, _*ℤ_}
 use Rattle.whole.proofs.Whole.{
   ring,
   quote,

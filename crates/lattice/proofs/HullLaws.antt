@@ -1,5 +1,5 @@
 -- The laws of the hull: it holds S, it grows with S, and each of its points is in the hull of a few points of S. Assumes nothing.
-use mathlib.Core.Path.{_≡_, refl}
+use mathlib.Core.Path.{refl}
 use mathlib.Core.Logic.{inl, inr}
 use mathlib.Core.List.{List, [], _∷_}
 use Rattle.lattice.specs.Point.{Point, All}

@@ -1,5 +1,5 @@
 -- What holds of the points, pairs, triples and neighbours of a list; membership. Assumes nothing.
-use mathlib.Core.Path.{_≡_, refl, sym, subst}
+use mathlib.Core.Path.{refl, sym, subst}
 use mathlib.Core.Logic.{_⊎_, inl, inr}
 use mathlib.Core.List.{List, [], _∷_, _++_}
 use Rattle.lattice.specs.Point.{Point, In, All, Pairs}

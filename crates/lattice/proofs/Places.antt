@@ -48,8 +48,10 @@ module _ (R : Point → Point → Type 0) where
 
   pub place-pairs : (l : List Point) → ((i j : ℕ) → i < j → j < length l → R (point l i) (point l j)) → Pairs R l
   place-pairs [] h = tt
-  place-pairs (a ∷ l) h =
-      (place-all (R a) l (λ i g. h zero (suc i) (omega arith) (omega arith)), place-pairs l (λ i j g k. h (suc i) (suc j) (omega arith) (omega arith)))
+  place-pairs (a ∷ l) h = (
+    place-all (R a) l (λ i g. h zero (suc i) (omega arith) (omega arith)),
+    place-pairs l (λ i j g k. h (suc i) (suc j) (omega arith) (omega arith)),
+  )
 
   pub chain-place : (l : List Point) → Chain R l → (i : ℕ) → suc i < length l → R (point l i) (point l (suc i))
   chain-place [] h i g = nowhere (suc i) g

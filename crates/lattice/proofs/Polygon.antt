@@ -1,17 +1,15 @@
--- A point is in the hull of a list of a corner list's shape exactly if it is on the left of every edge or on it, and neither before all corners nor
--- after all in row order (which matters for one and two corners only). Assumes nothing.
-use mathlib.Core.Path.{_≡_, refl, sym, _∙_, ap, subst}
-use mathlib.Core.Logic.{_⊎_, inl, inr, _↔_}
+-- A point is in the hull of a list of a corner list's shape exactly if it is on the left of every edge or on it, and neither before all
+-- corners nor after all in row order (which matters for one and two corners only). Assumes nothing.
+use mathlib.Core.Path.{_≡_, refl, sym, subst}
+use mathlib.Core.Logic.{inl, inr, _↔_}
 use mathlib.Core.List.{List, [], _∷_}
 use Prim.Native.Nat.{ℕ, zero, suc, _+_, _<_}
 use native.Mathlib.Omega.{arith}
 use lib.ListN.{length}
-use lib.IntN.{ℤ, pos, negsuc, negℤ, _+ℤ_, _-ℤ_, _*ℤ_}
+use lib.IntN.{ℤ, pos, negℤ, _-ℤ_, _*ℤ_}
 use Rattle.whole.proofs.Whole.{
-  ring,
   quote,
   _≤ᶻ_,
-  _<ᶻ_,
   NonNegative,
   Positive,
   square-nonnegative,
@@ -26,15 +24,14 @@ use Rattle.whole.proofs.Whole.{
   linear⊥,
   linear≡,
   le-or-lt,
-  le-of-equal,
   le-of-lt,
   antisymmetric,
   product-positive,
   nonnegative-factor,
 }
-use Rattle.lattice.specs.Point.{Point, point, In, All, Triples, Before}
-use Rattle.lattice.specs.Hull.{turn, OnSegment, InTriangle, InHull, member, segment, triangle, Of}
-use Rattle.lattice.proofs.Turn.{coordinates, Left, turn-cyclic, turn-start, turn-end}
+use Rattle.lattice.specs.Point.{Point, point, In, Triples, Before}
+use Rattle.lattice.specs.Hull.{turn, OnSegment, InHull, member, segment, triangle, Of}
+use Rattle.lattice.proofs.Turn.{coordinates, Left, turn-cyclic, turn-back, start-on-edge, end-on-edge}
 use Rattle.lattice.proofs.Lists.{either}
 use Rattle.lattice.proofs.Places.{lt-or-le, place-in, in-place, triples-place}
 use Rattle.lattice.proofs.HalfPlane.{product-between, edge-half-plane}
@@ -43,7 +40,7 @@ use Rattle.lattice.proofs.RowOrder.{before-irreflexive, before-transiti
 use Rattle.lattice.proofs.RowKey.{along, Orders, list-order, hull-after, hull-before}
 use Rattle.lattice.proofs.Shape.{Shape}
 
--- p is on the left of each edge, or on it, the edge from the last corner to the first included; some corner is not after p, and some is not before p
+-- p is on the left of each edge or on it, the one from the last corner to the first included; not all corners are after p, and not all before
 pub record Inside (c : List Point) (p : Point) : Type 0 where
   pub edges : (i : ℕ) → suc i < length c → NonNegative (turn (point c i) (point c (suc i)) p)
   pub closing : (i : ℕ) → suc i ≡ length c → NonNegative (turn (point c i) (point c 0) p)
@@ -63,29 +60,33 @@ module _ (c : List Point) (h : Triples Left c) where
       (λ m. at-end (omega arith))
       (λ m. at-start (omega arith))))
     where
-      at-end : j ≡ suc i → NonNegative (turn (point c i) (point c (suc i)) (point c j))
-      at-end e = subst (λ n. NonNegative (turn (point c i) (point c (suc i)) (point c n))) (sym e) (le-of-equal (sym (turn-end (point c i) (point c (suc i)))))
+      Here : ℕ → Type 0
+      Here n = NonNegative (turn (point c i) (point c (suc i)) (point c n))
 
-      at-start : j ≡ i → NonNegative (turn (point c i) (point c (suc i)) (point c j))
-      at-start e = subst (λ n. NonNegative (turn (point c i) (point c (suc i)) (point c n))) (sym e) (le-of-equal (sym (turn-start (point c i) (point c (suc i)))))
+      at-end : j ≡ suc i → Here j
+      at-end e = subst Here (sym e) (end-on-edge (point c i) (point c (suc i)))
+
+      at-start : j ≡ i → Here j
+      at-start e = subst Here (sym e) (start-on-edge (point c i) (point c (suc i)))
 
   left-of-closing : (i j : ℕ) → suc i ≡ length c → j < length c → NonNegative (turn (point c i) (point c 0) (point c j))
-  left-of-closing i zero g f = le-of-equal (sym (turn-end (point c i) (point c 0)))
+  left-of-closing i zero g f = end-on-edge (point c i) (point c 0)
   left-of-closing i (suc j) g f =
       either (lt-or-le (suc j) i)
-      (λ k. subst NonNegative (turn-cyclic (point c 0) (point c (suc j)) (point c i) ∙ turn-cyclic (point c (suc j)) (point c i) (point c 0))
+      (λ k. subst NonNegative (sym (turn-cyclic (point c i) (point c 0) (point c (suc j))))
       (le-of-lt (triples-place Left c h 0 (suc j) i (omega arith) k (omega arith))))
       (λ k. at-start (omega arith))
     where
       at-start : suc j ≡ i → NonNegative (turn (point c i) (point c 0) (point c (suc j)))
-      at-start e = subst (λ n. NonNegative (turn (point c i) (point c 0) (point c n))) (sym e) (le-of-equal (sym (turn-start (point c i) (point c 0))))
+      at-start e = subst (λ n. NonNegative (turn (point c i) (point c 0) (point c n))) (sym e) (start-on-edge (point c i) (point c 0))
 
 pub corner-inside : (c : List Point) → Shape c → (q : Point) → In q c → Inside c q
 corner-inside c s q m =
     let r = in-place c q m in
+    let place = sym (r .2) in
     record {
-      edges = λ i g. subst (λ z. NonNegative (turn (point c i) (point c (suc i)) z)) (sym (r .2)) (left-of-edge c (s .three) i (r .0) g (r .1));
-      closing = λ i g. subst (λ z. NonNegative (turn (point c i) (point c 0) z)) (sym (r .2)) (left-of-closing c (s .three) i (r .0) g (r .1));
+      edges = λ i g. subst (λ z. NonNegative (turn (point c i) (point c (suc i)) z)) place (left-of-edge c (s .three) i (r .0) g (r .1));
+      closing = λ i g. subst (λ z. NonNegative (turn (point c i) (point c 0) z)) place (left-of-closing c (s .three) i (r .0) g (r .1));
       from = (q, m, before-irreflexive q);
       to = (q, m, before-irreflexive q);
     }
@@ -149,12 +150,11 @@ on-segment-in-order a b p h z f g = record {
     low = gap≤ (not-less p a (inr (inr (inl refl))) (inl refl) f)
 
     high : NonNegative (along K b -ℤ along K a -ℤ (along K p -ℤ along K a))
-    high = linear≤ (K ∷ coordinates (a ∷ b ∷ p ∷ [])) (gap≤ (not-less b p (inr (inl refl)) (inr (inr (inl refl))) g)) (search quote depth 20) tt
+    high =
+        linear≤ (K ∷ coordinates (a ∷ b ∷ p ∷ [])) (gap≤ (not-less b p (inr (inl refl)) (inr (inr (inl refl))) g))
+        (search quote depth 20) tt
 
 -- ---- three corners or more: go round from the first, to where p is no more on the left
-turn-back : (a b p : Point) → turn a b p ≤ᶻ pos 0 → NonNegative (turn b a p)
-turn-back a b p h = linear≤ (coordinates (a ∷ b ∷ p ∷ [])) (gap≤ h) (search quote depth 20) tt
-
 module _ (c : List Point) (s : Shape c) (p : Point) (h : Inside c p) where
   in-fan : (i : ℕ) → suc (suc i) < length c → NonNegative (turn (point c 0) (point c (suc i)) p)
       → turn (point c 0) (point c (suc (suc i))) p ≤ᶻ pos 0 → InHull (Of c) p

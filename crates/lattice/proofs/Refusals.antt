@@ -3,13 +3,12 @@ use mathlib.Core.Path.{_≡_, refl, sym, _∙_, subst}
 use mathlib.Core.Logic.{_⊎_, inl, inr}
 use mathlib.Core.Bool.{true, false}
 use mathlib.Core.List.{List}
-use Prim.Native.Nat.{ℕ, zero, suc, pred, _≤_, _<_, _%_}
+use Prim.Native.Nat.{ℕ, zero, suc, _≤_, _<_, _%_}
 use native.Mathlib.Omega.{arith}
 use lib.Dec.{T, ltb, ltb→lt, lt→ltb, eqb, eqb→eq, eqb-refl}
 use lib.ListN.{length}
 use lib.IntN.{ℤ}
 use Rattle.lattice.specs.Point.{Point, least, greatest, InRange, most, points, point, Before}
-use Rattle.lattice.specs.Hull.{CornerList}
 use Rattle.lattice.specs.Refusal.{
   First,
   Table,
@@ -20,10 +19,7 @@ use Rattle.lattice.specs.Refusal.{
   AtPoint,
   Repeats,
   Strays,
-  Odd,
-  OutOfRange,
   listRows,
-  Misplaced,
   rebuildRows,
 }
 use Rattle.lattice.proofs.Lists.{either}

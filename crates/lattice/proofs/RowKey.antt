@@ -1,10 +1,9 @@
--- Row order by a number: x + K y orders a list of points by rows where K is more than its width, and key p = 16384 y + x orders all points in
--- range. So what holds of linear functionals holds of row order. Assumes nothing of a list; the range where `key` is named.
-use mathlib.Core.Path.{_≡_, refl, sym, ap, subst}
-use mathlib.Core.Logic.{_⊎_, inl, inr}
+-- Row order by a number: x + K y orders a list of points by rows where K is more than its width, and key p = 16384 y + x orders all points
+-- in range. So what holds of linear functionals holds of row order. Assumes nothing of a list; the range where `key` is named.
+use mathlib.Core.Path.{_≡_, refl, sym}
+use mathlib.Core.Logic.{inl, inr}
 use mathlib.Core.List.{List, [], _∷_}
-use Prim.Native.Nat.{ℕ}
-use lib.IntN.{ℤ, pos, negsuc, negℤ, _+ℤ_, _-ℤ_, _*ℤ_}
+use lib.IntN.{ℤ, pos, negsuc, negℤ, _+ℤ_, _-ℤ_}
 use Rattle.whole.proofs.Whole.{
   quote,
   _≤ᶻ_,
@@ -19,6 +18,7 @@ use Rattle.whole.proofs.Whole.{
   linear≤,
   linear<,
   linear⊥,
+  le-or-lt,
   Sign,
   below,
   nought,
@@ -33,7 +33,7 @@ use Rattle.lattice.proofs.Turn.{coordinates, linear, Left, three-vector
 use Rattle.lattice.proofs.Lists.{either, all-in}
 use Rattle.lattice.proofs.HalfPlane.{strict-half-plane}
 use Rattle.lattice.proofs.HullLaws.{hull-of-few}
-use Rattle.lattice.proofs.RowOrder.{before-total, before-irreflexive}
+use Rattle.lattice.proofs.RowOrder.{before-total}
 use Rattle.lattice.proofs.Reach.{reach, reaches}
 
 -- x + K y
@@ -101,6 +101,14 @@ module _ (a b : Point) (ra : InRange a) (rb : InRange b) where
 
   pub key-before : key a <ᶻ key b → Before a b
   key-before = range-order .follows a b ra rb
+
+-- not before, by the key
+pub key-not-before : (a b : Point) → InRange a → InRange b → key b ≤ᶻ key a → Before a b → ⊥
+key-not-before a b ra rb h g =
+    linear⊥ (key a ∷ key b ∷ []) (gap≤ h ⊞ gap< (before-key a b ra rb g)) (search quote depth 20) tt
+
+pub not-before-key : (a b : Point) → InRange a → InRange b → (Before a b → ⊥) → key b ≤ᶻ key a
+not-before-key a b ra rb n = either (le-or-lt (key b) (key a)) (λ h. h) (λ h. absurd (n (key-before a b ra rb h)))
 
 pub key-injective : (a b : Point) → InRange a → InRange b → key a ≡ key b → a ≡ b
 key-injective a b ra rb e = either (before-total a b) (λ h. clash (before-key a b ra rb h) e)

@@ -2,13 +2,12 @@
 use mathlib.Core.Path.{_≡_, sym, _∙_, subst}
 use mathlib.Core.Logic.{_⊎_, inl, inr}
 use mathlib.Core.List.{List, [], _∷_}
-use lib.IntN.{ℤ, pos, negsuc, _-ℤ_}
+use lib.IntN.{ℤ, pos, _-ℤ_}
 use Rattle.whole.proofs.Whole.{
   quote,
   _<ᶻ_,
   gap<,
   _⊞_,
-  _⋆≡_,
   linear<,
   linear⊥,
   Sign,
@@ -18,8 +17,7 @@ use Rattle.whole.proofs.Whole.{
   sign,
   difference-zero,
 }
-use Rattle.lattice.specs.Point.{Point, In, Pairs, Before, row, column}
-use Rattle.lattice.proofs.Turn.{coordinates}
+use Rattle.lattice.specs.Point.{Point, Pairs, Before, row, column}
 use Rattle.lattice.proofs.Lists.{either, Chain, chain-pairs}
 use Rattle.lattice.proofs.HalfPlane.{point-equal}
 

@@ -1,11 +1,11 @@
 -- If c has the shape of a corner list and c ⊆ s ⊆ hull of c, then s has the hull of c, and c is its corner list. Assumes nothing.
 use mathlib.Core.Path.{_≡_, refl, sym, subst}
-use mathlib.Core.Logic.{_⊎_, inl, inr, _↔_}
+use mathlib.Core.Logic.{inl, inr, _↔_}
 use mathlib.Core.List.{List, [], _∷_}
-use Prim.Native.Nat.{ℕ, zero, suc, _<_, _≤_}
+use Prim.Native.Nat.{ℕ, zero, suc, _<_}
 use native.Mathlib.Omega.{arith}
 use lib.ListN.{length}
-use lib.IntN.{ℤ, pos, negsuc, _+ℤ_, _-ℤ_, _*ℤ_}
+use lib.IntN.{ℤ, pos, _+ℤ_, _-ℤ_, _*ℤ_}
 use Rattle.whole.proofs.Whole.{
   ring,
   quote,
@@ -27,8 +27,8 @@ use Rattle.whole.proofs.Whole.{
   difference-zero,
 }
 use Rattle.lattice.specs.Point.{Point, point, In, All, Pairs, Before}
-use Rattle.lattice.specs.Hull.{turn, InHull, Of, Rest, Corner, CornerList}
-use Rattle.lattice.proofs.Turn.{coordinates, affine, Left, turn-cyclic, turn-end}
+use Rattle.lattice.specs.Hull.{turn, InHull, member, Of, Rest, Corner, CornerList}
+use Rattle.lattice.proofs.Turn.{coordinates, affine, Left, turn-cyclic}
 use Rattle.lattice.proofs.Lists.{either, all-in, all-map, pairs-map}
 use Rattle.lattice.proofs.Places.{lt-or-le, nowhere, place-in, place-all, triples-place}
 use Rattle.lattice.proofs.HalfPlane.{point-equal, keeps-out}
@@ -43,6 +43,9 @@ pub record Spans (s c : List Point) : Type 0 where
   pub shape : Shape c
   pub inside : (q : Point) → In q c → In q s
   pub cover : (q : Point) → In q s → InHull (Of c) q
+
+pub spans-itself : (c : List Point) → Shape c → Spans c c
+spans-itself c h = record { shape = h; inside = λ q m. m; cover = λ q m. member m }
 
 -- ---- which points are corners
 module _ (s : List Point) (a : Point) (m : In a s) where
@@ -152,8 +155,10 @@ module _ (s : List Point) where
   each-corner [] h = tt
   each-corner (a ∷ []) h = (first-corner a [] h, tt)
   each-corner (a ∷ b ∷ []) h = (first-corner a (b ∷ []) h, (second-corner a b h, tt))
-  each-corner (a ∷ b ∷ d ∷ l) h =
-      (first-corner a (b ∷ d ∷ l) h, place-all (Corner s) (b ∷ d ∷ l) (λ i g. later-corner (a ∷ b ∷ d ∷ l) h i (omega arith) (omega arith)))
+  each-corner (a ∷ b ∷ d ∷ l) h = (
+    first-corner a (b ∷ d ∷ l) h,
+    place-all (Corner s) (b ∷ d ∷ l) (λ i g. later-corner (a ∷ b ∷ d ∷ l) h i (omega arith) (omega arith)),
+  )
 
 -- no two points of a list of the shape are equal
 shape-once : (c : List Point) → Shape c → Pairs (λ a b. a ≡ b → ⊥) c
@@ -168,7 +173,8 @@ shape-once (a ∷ l) h = (
 pub corner-list-of-spanned : (s c : List Point) → Spans s c → CornerList s c
 corner-list-of-spanned s c h = record {
   every = λ p k. either (yes-or-no (in? p c)) (λ i. i)
-      (λ n. absurd (k .outside (hull-larger (Of c) (Rest s p) (λ q i. (h .inside q i, λ e. n (subst (λ z. In z c) e i))) p (h .cover p (k .held)))));
+      (λ n. absurd (k .outside
+      (hull-larger (Of c) (Rest s p) (λ q i. (h .inside q i, λ e. n (subst (λ z. In z c) e i))) p (h .cover p (k .held)))));
   only = all-in (Corner s) c (each-corner s c h);
   once = shape-once c (h .shape);
   start = h .shape .start;

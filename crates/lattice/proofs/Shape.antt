@@ -1,17 +1,17 @@
--- The shape of a corner list: the first in row order first, any three in list order turn left; and the test of as many turns as the list has points,
--- twice over, that it is exactly. Assumes nothing.
-use mathlib.Core.Path.{_≡_, refl}
-use mathlib.Core.Logic.{_⊎_, inl, inr, _↔_}
+-- The shape of a corner list: the first in row order first, any three in list order turn left; and the test of as many turns as the list
+-- has points, twice over, that it is exactly. Assumes nothing.
+use mathlib.Core.Path.{_≡_}
+use mathlib.Core.Logic.{_↔_}
 use mathlib.Core.List.{List, [], _∷_}
 use Prim.Native.Nat.{ℕ, zero, suc, _<_}
 use native.Mathlib.Omega.{arith}
 use lib.ListN.{length}
-use lib.IntN.{ℤ, pos, _+ℤ_, _*ℤ_}
-use Rattle.whole.proofs.Whole.{ring, quote, Positive, positive-by-products}
+use lib.IntN.{ℤ, _+ℤ_, _*ℤ_}
+use Rattle.whole.proofs.Whole.{Positive, positive-by-products}
 use Rattle.lattice.specs.Point.{Point, point, In, All, Pairs, Triples, Before}
 use Rattle.lattice.specs.Hull.{turn, StartsFirst}
-use Rattle.lattice.proofs.Turn.{coordinates, Left}
-use Rattle.lattice.proofs.Lists.{all-in, in-all, pairs-map, pairs-both, Chain, Bends, chain-pairs, bends-tail}
+use Rattle.lattice.proofs.Turn.{Left, plücker-inner, plücker-outer}
+use Rattle.lattice.proofs.Lists.{all-in, in-all, pairs-map, pairs-both, Bends, chain-pairs, bends-tail}
 use Rattle.lattice.proofs.Places.{nowhere, all-place, place-all, triples-place, place-chain, place-bends}
 use Rattle.lattice.proofs.RowKey.{turn-transitive}
 
@@ -66,23 +66,23 @@ module _ (turns : Point → Point → Point → ℤ) (q : Point → Point → �
       (in-front a b c l r (h .0) t, t)
 
 -- ---- the test is the shape
-inner-seen : (o a b c d : Point) → turn o b c *ℤ turn a c d ≡ turn o c d *ℤ turn a b c +ℤ turn o a c *ℤ turn b c d
-inner-seen o a b c d = ring (coordinates (o ∷ a ∷ b ∷ c ∷ d ∷ [])) (search quote depth 20) tt
-
-outer-seen : (o a b c d : Point) → turn o b c *ℤ turn a b d ≡ turn o b d *ℤ turn a b c +ℤ turn o a b *ℤ turn b c d
-outer-seen o a b c d = ring (coordinates (o ∷ a ∷ b ∷ c ∷ d ∷ [])) (search quote depth 20) tt
-
 tested-shape : (c : List Point) → ShapeTest c → Shape c
 tested-shape [] t = record { start = tt; three = tt }
-tested-shape (o ∷ l) t = record { start = after; three = (around, triples-of-bends turn (turn o) (inner-seen o) (outer-seen o) l around bent) }
+tested-shape (o ∷ l) t = record {
+  start = after;
+  three = (around, triples-of-bends turn (turn o) (plücker-inner o) (plücker-outer o) l around bent);
+}
   where
     after : All (Before o) l
     after = place-all (Before o) l (λ i h. t .first i (omega arith))
 
+    after-in : (q : Point) → In q l → Before o q
+    after-in = all-in (Before o) l after
+
     around : Pairs (Left o) l
     around =
         chain-pairs (Left o) l
-        (λ a b c i j k. turn-transitive o a b c (all-in (Before o) l after a i) (all-in (Before o) l after b j) (all-in (Before o) l after c k))
+        (λ a b c i j k. turn-transitive o a b c (after-in a i) (after-in b j) (after-in c k))
         (place-chain (Left o) l (λ i h. t .seen i (omega arith)))
 
     bent : Bends Left l

@@ -1,8 +1,8 @@
--- The laws of turn, one identity each. Assumes nothing.
-use mathlib.Core.Path.{_≡_}
+-- The laws of turn. Assumes nothing.
+use mathlib.Core.Path.{_≡_, sym, subst}
 use mathlib.Core.List.{List, [], _∷_}
 use lib.IntN.{ℤ, pos, negℤ, _+ℤ_, _-ℤ_, _*ℤ_}
-use Rattle.whole.proofs.Whole.{ring, quote, Positive}
+use Rattle.whole.proofs.Whole.{ring, quote, _≤ᶻ_, NonNegative, Positive, natural, gap≤, linear≤}
 use Rattle.lattice.specs.Point.{Point}
 use Rattle.lattice.specs.Hull.{turn}
 
@@ -30,20 +30,28 @@ turn-cyclic a b c = ring (coordinates (a ∷ b ∷ c ∷ [])) (search quote dept
 pub turn-antisymmetric : (a b c : Point) → turn a b c ≡ negℤ (turn b a c)
 turn-antisymmetric a b c = ring (coordinates (a ∷ b ∷ c ∷ [])) (search quote depth 20) tt
 
-pub turn-start : (a b : Point) → turn a b a ≡ pos 0
-turn-start a b = ring (coordinates (a ∷ b ∷ [])) (search quote depth 20) tt
+-- not on the left of an edge: on the left of the edge back, or on it
+pub turn-back : (a b p : Point) → turn a b p ≤ᶻ pos 0 → NonNegative (turn b a p)
+turn-back a b p h =
+    subst NonNegative (sym (turn-antisymmetric b a p)) (linear≤ (turn a b p ∷ []) (gap≤ h) (search quote depth 20) tt)
 
-pub turn-end : (a b : Point) → turn a b b ≡ pos 0
-turn-end a b = ring (coordinates (a ∷ b ∷ [])) (search quote depth 20) tt
+-- the ends of an edge are on it
+pub start-on-edge : (a b : Point) → NonNegative (turn a b a)
+start-on-edge a b = linear≤ (coordinates (a ∷ b ∷ [])) (natural 0) (search quote depth 20) tt
+
+pub end-on-edge : (a b : Point) → NonNegative (turn a b b)
+end-on-edge a b = linear≤ (coordinates (a ∷ b ∷ [])) (natural 0) (search quote depth 20) tt
 
 -- ---- a fourth point
 pub turn-splits : (a b c p : Point) → turn a b p +ℤ turn b c p +ℤ turn c a p ≡ turn a b c
 turn-splits a b c p = ring (coordinates (a ∷ b ∷ c ∷ p ∷ [])) (search quote depth 20) tt
 
--- a fifth: every step "sorted by angle about o, so .." is this one
-pub plücker : (o p q r s : Point)
-    → turn o p q *ℤ turn o r s ≡ turn o p r *ℤ turn o q s +ℤ turn o p s *ℤ turn o r q
-plücker o p q r s = ring (coordinates (o ∷ p ∷ q ∷ r ∷ s ∷ [])) (search quote depth 20) tt
+-- a fifth, Plücker: every step "sorted by angle about o, so .." is one of these two
+pub plücker-inner : (o a b c d : Point) → turn o b c *ℤ turn a c d ≡ turn o c d *ℤ turn a b c +ℤ turn o a c *ℤ turn b c d
+plücker-inner o a b c d = ring (coordinates (o ∷ a ∷ b ∷ c ∷ d ∷ [])) (search quote depth 20) tt
+
+pub plücker-outer : (o a b c d : Point) → turn o b c *ℤ turn a b d ≡ turn o b d *ℤ turn a b c +ℤ turn o a b *ℤ turn b c d
+plücker-outer o a b c d = ring (coordinates (o ∷ a ∷ b ∷ c ∷ d ∷ [])) (search quote depth 20) tt
 
 -- ---- turn and functionals
 pub barycentric : (α β γ : ℤ) (a b c p : Point)
