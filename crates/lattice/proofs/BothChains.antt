@@ -30,7 +30,7 @@ use Rattle.lattice.proofs.RowKey.{along, Orders, opposite-back, before-
 use Rattle.lattice.proofs.Shape.{Shape, shape-test}
 use Rattle.lattice.proofs.Polygon.{Inside, polygon}
 use Rattle.lattice.proofs.Sandwich.{Spans}
-use Rattle.lattice.proofs.Scan.{Scanned, Over, bottom, stack-rises, stack-turns}
+use Rattle.lattice.proofs.Scan.{Scanned, Over, TurnsLeft, bottom, stack-rises, stack-turns}
 use Rattle.lattice.proofs.Stack.{
   stack,
   front,
@@ -52,6 +52,11 @@ Downward K M t r = Scanned (negsuc 0) (negℤ K) M t r
 pub bottom-stack : (f : ℕ → Point) (n : ℕ) → bottom (f n) (stack f n) ≡ f zero
 bottom-stack f zero = refl
 bottom-stack f (suc n) = bottom-stack f n
+
+-- a turn to the left on the stack, by place
+pub turns-left-place : (f : ℕ → Point) (n : ℕ) (p : Point) → ((j : ℕ) → suc j ≡ n → Left (f j) (f n) p) → TurnsLeft p (f n) (stack f n)
+turns-left-place f zero p h = tt
+turns-left-place f (suc n) p h = h n refl
 
 -- s before z on the way up, u after z on the way down, o below all: at z the way turns left
 junction : (K : ℤ) (o s z u : Point) → (along K z -ℤ along K o) *ℤ turn s z u

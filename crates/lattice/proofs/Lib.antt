@@ -1,25 +1,26 @@
--- t
+-- The theory of the lattice, from the ground up.
 pub mod Turn
 pub mod Lists
 pub mod Places
 pub mod HalfPlane
 pub mod HullLaws
 pub mod Decide
+pub mod Refusals
 pub mod RowOrder
 pub mod Reach
 pub mod RowKey
+pub mod Frame
 pub mod Shape
 pub mod Polygon
 pub mod Sandwich
 pub mod Scan
 pub mod Stack
 pub mod BothChains
-pub mod Frame
-pub mod Refusals
 pub mod SameMembers
 pub mod RowLists
 pub mod ScanAll
 pub mod CornerLists
+pub mod HullOfHull
 pub mod MissingLists
 pub mod Demand
 pub mod RowEnds
