@@ -11,12 +11,14 @@ use Rattle.lattice.proofs.Sandwich.{Spans, spans-itself, hull-of-spanne
 use Rattle.lattice.proofs.SameMembers.{Same, shape-unique}
 use Rattle.lattice.proofs.ScanAll.{spans-exist}
 
+-- every list of points has a corner list
 pub corner-list-exists : (s : List Point) → (c : List Point) × CornerList s c
 corner-list-exists s = let r = spans-exist s in (r .0, corner-list-of-spanned s (r .0) (r .1))
 
 pub corner-list-shape : (s c : List Point) → CornerList s c → Shape c
 corner-list-shape s c h = record { start = h .start; three = h .three }
 
+-- and only one
 pub corner-list-unique : (s c d : List Point) → CornerList s c → CornerList s d → c ≡ d
 corner-list-unique s c d h g =
     shape-unique c d (corner-list-shape s c h) (corner-list-shape s d g)
@@ -51,6 +53,7 @@ corner-list-same s t e c h = record {
 }
 
 -- ---- the corner lists are the lists of the shape
+-- a list has the shape exactly if it is the corner list of itself
 pub shape-corner-list : (c : List Point) → Shape c ↔ CornerList c c
 shape-corner-list c = (
   (λ h. corner-list-of-spanned c c (spans-itself c h)),

@@ -25,6 +25,7 @@ kept-exactly s c m h g p = (
   (λ i. record { within = hull-of-corners s c h p .0 (member i); kept = λ j. g .only p j .lacks i }),
 )
 
+-- so to list what is kept is to list the points
 pub lists-kept : (s c m : List Point) → CornerList s c → MissingList s m → (o : List Point) → Lists (Kept c m) o ↔ Lists (Of s) o
 lists-kept s c m h g o = (
   lists-same (Kept c m) (Of s) (λ p. kept-exactly s c m h g p .0) (λ p. kept-exactly s c m h g p .1) o,

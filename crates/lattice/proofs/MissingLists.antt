@@ -13,6 +13,7 @@ use Rattle.lattice.proofs.HullLaws.{hull-larger}
 use Rattle.lattice.proofs.SameMembers.{Same, lists-unique, lists-same}
 use Rattle.lattice.proofs.RowLists.{lists-exist, lists-split, row-order-exists, row-order-length}
 
+-- every list of points has a missing list; so can be listed the lattice points of its hull, and what Rebuild keeps
 pub missing-list-exists : (s : List Point) → (m : List Point) × MissingList s m
 missing-list-exists s = lists-exist (Missing s) (missing? s) s (λ p h. h .within)
 
