@@ -32,7 +32,7 @@ use Rattle.whole.proofs.Whole.{
 use Rattle.lattice.specs.Point.{Point, point, In, Triples, Before}
 use Rattle.lattice.specs.Hull.{turn, OnSegment, InHull, member, segment, triangle, Of}
 use Rattle.lattice.proofs.Turn.{coordinates, Left, turn-cyclic, turn-back, start-on-edge, end-on-edge}
-use Rattle.lattice.proofs.Lists.{either}
+use Rattle.lattice.proofs.Lists.{either, all-in}
 use Rattle.lattice.proofs.Places.{lt-or-le, place-in, in-place, triples-place}
 use Rattle.lattice.proofs.HalfPlane.{product-between, edge-half-plane}
 use Rattle.lattice.proofs.Decide.{Decided, negated, yes-or-no, Some, some?, before?}
@@ -212,3 +212,30 @@ inside-hull (a ∷ b ∷ d ∷ l) s p h = fan (a ∷ b ∷ d ∷ l) s p h (lengt
 -- the theorem: a point is in the hull of a list of the shape exactly if it is inside
 pub polygon : (c : List Point) → Shape c → (p : Point) → InHull (Of c) p ↔ Inside c p
 polygon c s p = (hull-inside c (Of c) (corner-inside c s) p, inside-hull c s p)
+
+-- the same by the first and the last corner in row order
+pub record InsideEnds (c : List Point) (t p : Point) : Type 0 where
+  pub edges : (i : ℕ) → suc i < length c → NonNegative (turn (point c i) (point c (suc i)) p)
+  pub closing : (i : ℕ) → suc i ≡ length c → NonNegative (turn (point c i) (point c 0) p)
+  pub from-first : Before p (point c 0) → ⊥
+  pub to-last : Before t p → ⊥
+
+pub polygon-by-ends : (c : List Point) → Shape c → (t : Point) → In t c → ((q : Point) → In q c → Before t q → ⊥)
+    → (p : Point) → InHull (Of c) p ↔ InsideEnds c t p
+polygon-by-ends [] s t m last p = absurd m
+polygon-by-ends (a ∷ l) s t m last p = (λ h. to (polygon (a ∷ l) s p .0 h), λ h. polygon (a ∷ l) s p .1 (from h))
+  where
+    first : (q : Point) → In q (a ∷ l) → Before p a → Before p q
+    first q (inl e) k = subst (Before p) (sym e) k
+    first q (inr i) k = before-transitive p a q k (all-in (Before a) l (s .start) q i)
+
+    to : Inside (a ∷ l) p → InsideEnds (a ∷ l) t p
+    to h = record {
+      edges = h .edges;
+      closing = h .closing;
+      from-first = λ k. h .from .2 (first (h .from .0) (h .from .1) k);
+      to-last = λ k. h .to .2 (not-before-before p t (h .to .0) k (last (h .to .0) (h .to .1)));
+    }
+
+    from : InsideEnds (a ∷ l) t p → Inside (a ∷ l) p
+    from h = record { edges = h .edges; closing = h .closing; from = (a, inl refl, h .from-first); to = (t, m, h .to-last) }
