@@ -16,6 +16,7 @@ pub mod Sandwich
 pub mod Scan
 pub mod Stack
 pub mod BothChains
+pub mod RowScan
 pub mod SameMembers
 pub mod RowLists
 pub mod ScanAll
