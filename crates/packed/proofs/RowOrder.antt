@@ -6,7 +6,7 @@ use native.Mathlib.Omega.{arith}
 use lib.Dec.{leb→le, ltb→lt, le→leb, lt→ltb}
 use lib.IntN.{ℤ, pos, natAbs, _+ℤ_, _-ℤ_}
 use lib.Signed.{_≤ℤ_, _<ℤ_}
-use Rattle.whole.proofs.Whole.{ring, quote, _≤ᶻ_, _<ᶻ_, natural, gap≤, gap<, _⊞_, _⋆≡_, linear≤, linear<, linear≡, _∗≡_}
+use Rattle.whole.proofs.Whole.{ring, quote, _≤ᶻ_, _<ᶻ_, NonNegative, natural, gap≤, gap<, _⊞_, _⋆≡_, linear≤, linear<, linear≡, _∗≡_}
 use Rattle.lattice.specs.Point.{Point, InRange, Before, row, column}
 use Rattle.lattice.proofs.Lists.{either}
 use Rattle.lattice.proofs.HalfPlane.{point-equal}
@@ -22,6 +22,11 @@ placed-order : (m n : ℕ) → m < n → placed m <ᶻ placed n
 placed-order m n h =
     let l : pos m <ᶻ pos n = record { lt = lt→ltb m n h } in
     linear< (pos m ∷ pos n ∷ []) (gap< l) (search quote depth 20) tt
+
+pub placed-grows : (m n : ℕ) → m ≤ n → NonNegative (placed n -ℤ placed m)
+placed-grows m n h =
+    let l : pos m ≤ᶻ pos n = record { le = le→leb m n h } in
+    linear≤ (pos m ∷ pos n ∷ []) (gap≤ l) (search quote depth 20) tt
 
 order-placed : (m n : ℕ) → placed m <ᶻ placed n → m < n
 order-placed m n h =

@@ -1,0 +1,118 @@
+-- The first and the last points of rows, among packed points that rise. Assumes nothing.
+use mathlib.Core.Path.{_≡_, refl, sym, _∙_, ap, subst}
+use mathlib.Core.Logic.{_⊎_, inl, inr}
+use mathlib.Core.Bool.{Bool, true, false, not}
+use mathlib.Core.List.{List, [], _∷_, map}
+use Prim.Native.Nat.{ℕ, zero, suc, _+_, _-_, _*_, _/_, _%_, _≤_, _<_}
+use native.Mathlib.Omega.{arith}
+use borrow.Author.Tests.{eq-eqb, eqb-true}
+use lib.Dec.{T, eqb}
+use lib.ListN.{length, getD}
+use lib.IntN.{ℤ, pos, negsuc, negℤ, _-ℤ_, _*ℤ_}
+use Rattle.whole.proofs.Whole.{quote, _<ᶻ_, NonNegative, gap<, _⊞_, _⊠_, linear≤}
+use Rattle.lattice.specs.Point.{Point, InRange, Before}
+use Rattle.lattice.proofs.Lists.{either}
+use Rattle.lattice.proofs.Places.{lt-or-le}
+use Rattle.lattice.proofs.RowKey.{rangeWidth, before-key, key-before, opposite, opposite-back}
+use Rattle.lattice.proofs.Scan.{Over}
+use Rattle.packed.specs.Packed.{Tells, side, placed}
+use Rattle.packed.proofs.RowOrder.{unpacked-in-range, before-unpacked, unpacked-before, placed-grows}
+use Rattle.hull.specs.Scanning.{at, Rising, EndsRow, StartsRow}
+use Rattle.hull.proofs.Ways.{Way}
+
+-- the row of a place
+abbrev pub rowAt : List ℕ → ℕ → ℕ
+rowAt keys i = getD keys i 0 / side
+
+module _ (keys : List ℕ) (h : Rising keys) where
+  -- a later place is not in an earlier row, and in one row not in an earlier column
+  key-grows : (i j : ℕ) → i ≤ j → j < length keys → getD keys i 0 ≤ getD keys j 0
+  key-grows i j l n =
+      either (lt-or-le i j) (λ u. omega (arith, h .rises i j u n))
+      (λ u. let e : i ≡ j = omega arith in omega (arith, ap (λ k. getD keys k 0) e))
+
+  row-grows : (i j : ℕ) → i ≤ j → j < length keys → NonNegative ((at keys j) .y -ℤ (at keys i) .y)
+  row-grows i j l n = placed-grows (rowAt keys i) (rowAt keys j) (omega (arith, key-grows i j l n))
+
+  column-grows : (i j : ℕ) → i ≤ j → j < length keys → rowAt keys i ≡ rowAt keys j → NonNegative ((at keys j) .x -ℤ (at keys i) .x)
+  column-grows i j l n e = placed-grows (getD keys i 0 % side) (getD keys j 0 % side) (omega (arith, e, key-grows i j l n))
+
+  in-range : (i : ℕ) → i < length keys → InRange (at keys i)
+  in-range i l = unpacked-in-range (getD keys i 0) (h .below i l)
+
+  -- ---- the key orders the places, both ways
+  pub up-over : (i j : ℕ) → i < length keys → j < length keys → j < i → Over (pos 1) (pos rangeWidth) (at keys i) (at keys j)
+  up-over i j l n u = before-key (at keys j) (at keys i) (in-range j n) (in-range i l) (before-unpacked (getD keys j 0) (getD keys i 0) (h .rises j i u l))
+
+  over-up : (i j : ℕ) → i < length keys → j < length keys → Over (pos 1) (pos rangeWidth) (at keys i) (at keys j) → j < i
+  over-up i j l n o =
+      let b = unpacked-before (getD keys j 0) (getD keys i 0) (key-before (at keys j) (at keys i) (in-range j n) (in-range i l) o) in
+      either (lt-or-le j i) (λ u. u) (λ u. absurd (omega (arith, b, key-grows i j u n)))
+
+  same-row : (j : ℕ) → rowAt keys (suc j) ≤ rowAt keys j → suc j < length keys → rowAt keys j ≡ rowAt keys (suc j)
+  same-row j u l = omega (arith, u, key-grows j (suc j) (omega arith) l)
+
+  -- ---- the last and the first place of a row
+  pub row-end : (rest j : ℕ) → j + suc rest ≡ length keys → (e : ℕ) × (j ≤ e) × (e < length keys) × EndsRow keys e × (rowAt keys j ≡ rowAt keys e)
+  row-end zero j q = (j, omega arith, omega arith, (λ l. absurd (omega arith)), refl)
+  row-end (suc rest) j q =
+      either (lt-or-le (rowAt keys j) (rowAt keys (suc j)))
+      (λ u. (j, omega arith, omega arith, (λ l e. absurd (omega arith)), refl))
+      (λ u. let r = row-end rest (suc j) (omega arith) in
+      (r .0, omega (arith, r .1), r .2, r .3, same-row j u (omega arith) ∙ r .4))
+
+  pub row-start : (j : ℕ) → j < length keys → (e : ℕ) × (e ≤ j) × StartsRow keys e × (rowAt keys j ≡ rowAt keys e)
+  row-start zero l = (zero, omega arith, (λ i f. absurd (omega arith)), refl)
+  row-start (suc j) l =
+      either (lt-or-le (rowAt keys j) (rowAt keys (suc j)))
+      (λ u. (suc j, omega arith, (λ i f e. let d : i ≡ j = omega arith in absurd (omega (arith, e, ap (rowAt keys) d))), refl))
+      (λ u. let r = row-start j (omega arith) in (r .0, omega (arith, r .1), r .2, sym (same-row j u l) ∙ r .3))
+
+  -- ---- the way up by the last points of the rows, the way down by the first
+  pub up : 0 < length keys → Way keys (pos 1) (pos rangeWidth) 0 (length keys - 1) (EndsRow keys)
+  up some = record {
+    After = λ i j. j < i;
+    first-in = some;
+    last-in = omega arith;
+    over = up-over;
+    from-first = λ j l. either (lt-or-le 0 j) (λ u. inr u) (λ u. inl (omega arith));
+    to-last = λ j l. either (lt-or-le j (length keys - 1)) (λ u. inr u) (λ u. inl (omega arith));
+    last-end = λ l. absurd (omega arith);
+    ends = λ j l. let r = row-end (length keys - suc j) j (omega arith) in (
+      r .0,
+      r .2,
+      r .3,
+      ap placed (r .4),
+      λ u v m n o. row-grows v u (omega (arith, over-up u v m n o)) m ⊠ column-grows j (r .0) (r .1) (r .2) (r .4),
+    );
+  }
+
+  pub down : 0 < length keys → Way keys (negsuc 0) (negℤ (pos rangeWidth)) (length keys - 1) 0 (StartsRow keys)
+  down some = record {
+    After = λ i j. i < j;
+    first-in = omega arith;
+    last-in = some;
+    over = λ i j l n u. opposite (pos rangeWidth) (at keys i) (at keys j) (up-over j i n l u);
+    from-first = λ j l. either (lt-or-le j (length keys - 1)) (λ u. inr u) (λ u. inl (omega arith));
+    to-last = λ j l. either (lt-or-le 0 j) (λ u. inr u) (λ u. inl (omega arith));
+    last-end = λ j f. absurd (omega arith);
+    ends = λ j l. let r = row-start j l in (
+      r .0,
+      omega (arith, r .1),
+      r .2,
+      ap placed (r .3),
+      λ u v m n o. let w = over-up v u n m (opposite-back (pos rangeWidth) (at keys u) (at keys v) o) in
+          both-down ((at keys u) .y) ((at keys v) .y) ((at keys (r .0)) .x) ((at keys j) .x) (row-grows u v (omega (arith, w)) n) (column-grows (r .0) j (r .1) l (sym (r .3))),
+    );
+  }
+    where
+      both-down : (a b c d : ℤ) → NonNegative (b -ℤ a) → NonNegative (d -ℤ c) → NonNegative ((a -ℤ b) *ℤ (c -ℤ d))
+      both-down a b c d u v = linear≤ (a ∷ b ∷ c ∷ d ∷ []) (u ⊠ v) (search quote depth 20) tt
+
+-- ---- what a comparison of rows tells
+pub told-apart : (a b : ℕ) → Tells (not (eqb a b)) (a ≡ b → ⊥)
+told-apart a b = by (eqb a b) refl
+  where
+    by : (t : Bool) → eqb a b ≡ t → Tells (not t) (a ≡ b → ⊥)
+    by true e = λ n. n (eqb-true a b e)
+    by false e = λ q. subst T (sym (eq-eqb a b q) ∙ e) tt

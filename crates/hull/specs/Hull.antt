@@ -1,0 +1,2 @@
+-- What Hull promises (document 01: "Hull: Order, and the corners."). Assumes nothing.
+use mathlib.Core.List.{List}

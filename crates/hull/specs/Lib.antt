@@ -1,0 +1,3 @@
+-- What Hull promises, and what its scan does to a stack of packed points.
+pub mod Scanning
+pub mod Hull
