@@ -5,7 +5,7 @@ use mathlib.Core.List.{List, [], _∷_, map}
 use Prim.Native.Nat.{ℕ, zero, suc, _+_, _-_, _*_, _≤_, _<_}
 use native.Mathlib.Omega.{arith}
 use native.Mathlib.Numerals.{add-one}
-use lib.ListN.{length, getD, take}
+use lib.ListN.{length, getD, set, take}
 use lib.Seq.{getD-take, length-take-le}
 use lib.IntN.{ℤ, pos, negsuc, negℤ}
 use Rattle.lattice.specs.Point.{InRange, All}
@@ -15,7 +15,7 @@ use Rattle.lattice.proofs.Places.{lt-or-le, nowhere}
 use Rattle.lattice.proofs.RowKey.{rangeWidth, opposite}
 use Rattle.lattice.proofs.Stack.{stack as stackOf, front, stack-agrees}
 use Rattle.lattice.proofs.BothChains.{Upward, Downward, both-chains}
-use Rattle.lattice.proofs.Sandwich.{corner-list-of-spanned}
+use Rattle.lattice.proofs.Sandwich.{spans-itself, corner-list-of-spanned}
 use Rattle.packed.specs.Packed.{cells, unpacked}
 use Rattle.packed.proofs.RowOrder.{unpacked-injective, unpacked-in-range}
 use Rattle.order.specs.Keys.{Below}
@@ -228,3 +228,22 @@ module _ (keys stack₀ : List ℕ) (base : ℕ) (stack : List ℕ) (top i : ℕ
               (subst (λ b. Downward (pos rangeWidth) (Of (map unpacked keys)) (at stack (base + h .standing .height)) (stackOf (λ j. at stack (b + j)) (h .standing .height))) (c .tops)
               (standing-all keys (negsuc 0) (negℤ (pos rangeWidth)) (DownTo keys i) stack base top (h .standing)
               (length keys - 1) 0 (StartsRow keys) (down keys rising (omega arith)) (λ j m e. (omega arith, inr e)) at-base)))
+
+-- ---- no point, and one
+pub cornered-none : (keys stack : List ℕ) → length keys ≡ 0 → Cornered keys stack 0
+cornered-none [] stack e = record {
+  few = omega arith;
+  below = λ i h. nowhere i h;
+  corners = corner-list-of-spanned [] [] (spans-itself [] (record { start = tt; three = tt }));
+}
+cornered-none (k ∷ keys) stack e = absurd (omega arith)
+
+pub cornered-one : (keys stack : List ℕ) → length keys ≡ 1 → Below keys → 0 < length stack → Cornered keys (set stack 0 (getD keys 0 0)) 1
+cornered-one [] stack e h l = absurd (omega arith)
+cornered-one (k ∷ []) [] e h l = absurd (omega arith)
+cornered-one (k ∷ []) (a ∷ stack) e h l = record {
+  few = omega arith;
+  below = λ i v. h i v;
+  corners = corner-list-of-spanned (unpacked k ∷ []) (unpacked k ∷ []) (spans-itself (unpacked k ∷ []) (record { start = tt; three = (tt, tt) }));
+}
+cornered-one (k ∷ m ∷ keys) stack e h l = absurd (omega arith)

@@ -3,3 +3,4 @@ pub mod Popping
 pub mod Ways
 pub mod Rows
 pub mod Climbing
+pub mod Hulling

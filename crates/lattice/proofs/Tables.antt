@@ -1,11 +1,16 @@
 -- One table of refusals behind another: a call that looks at more rows after those of a call that it contains. Assumes nothing.
 use mathlib.Core.Path.{_≡_, refl}
 use mathlib.Core.Logic.{_⊎_, inl, inr}
-use Prim.Native.Nat.{ℕ, suc}
+use mathlib.Core.List.{List}
+use Prim.Native.Nat.{ℕ, suc, _≤_, _<_}
 use native.Mathlib.Omega.{arith}
 use lib.Dec.{T, ltb, ltb→lt}
-use Rattle.lattice.proofs.Places.{nowhere}
-use Rattle.lattice.specs.Refusal.{First, Table, accepted, _when_else_, Gives, Whole}
+use lib.ListN.{length}
+use lib.IntN.{ℤ}
+use Rattle.lattice.proofs.Lists.{either}
+use Rattle.lattice.proofs.Places.{lt-or-le, nowhere}
+use Rattle.lattice.specs.Point.{most, points}
+use Rattle.lattice.specs.Refusal.{First, Table, accepted, _when_else_, Gives, Whole, listRows}
 
 -- the rows of t, then those of `later`
 infixr 6 _then_
@@ -42,3 +47,9 @@ whole-first p = record { here = (refl, p); earlier = λ j h _. nowhere j h }
 
 pub whole-never : {P : Type 0} → (P → ⊥) → (j : ℕ) → Whole P j → ⊥
 whole-never no-fault j h = no-fault (h .1)
+
+-- ---- a list that passes rows 1 to 4 has no more than 4,096 points
+pub list-few : (a : List ℤ) (i : ℕ) → Gives (listRows a accepted) 0 i → length (points a) ≤ most
+list-few a i (inl h) = absurd (omega (arith, h .0))
+list-few a i (inr (odd, inl h)) = absurd (omega (arith, h .0))
+list-few a i (inr (odd, inr (more, h))) = either (lt-or-le most (length (points a))) (λ l. absurd (more 0 (refl, l))) (λ l. l)

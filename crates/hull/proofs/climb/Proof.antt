@@ -1,9 +1,4 @@
-use Rattle.hull.proofs.climb.Statement.{statement}
-use Rattle.hull.proofs.climb.Tie as tie
-use Rattle.hull.proofs.climb.Reads as reads
-use Rattle.hull.proofs.climb.Lts as lts
-use Rattle.hull.proofs.ends_row.Reads as ends-row-reads
-use Rattle.hull.proofs.push.Reads as push-reads
+-- `hull::climb` meets its contract: a turn of the loop passes one point more. Assumes nothing.
 use Prim.Native.Nat.{ℕ, suc, _≤_, _<_, _+_, _-_}
 use mathlib.Core.Path.{_≡_, refl, sym, _∙_, ap, subst}
 use native.Mathlib.Omega.{arith}
@@ -13,6 +8,8 @@ use lib.Seq.{getD-set-same}
 use Rattle.hull.specs.Scanning.{EndsRow}
 use Rattle.hull.proofs.Climbing.{Climbing, climbing-start, climbing-pushable, climbing-push, climbing-skip, climbing-end}
 use Rattle.packed.proofs.Tests.{tells-yes, tells-no}
+use Rattle.hull.proofs.climb.Statement.{statement}
+use Rattle.hull.proofs.climb.Tie as tie
 
 abbrev Inv-loop : tie.InvT-loop
 Inv-loop keys stack₀ top₀ i₀ stack top i = (length stack ≡ length stack₀) × Climbing keys stack top i

@@ -1,9 +1,4 @@
-use Rattle.hull.proofs.descend.Statement.{statement}
-use Rattle.hull.proofs.descend.Tie as tie
-use Rattle.hull.proofs.descend.Reads as reads
-use Rattle.hull.proofs.descend.Lts as lts
-use Rattle.hull.proofs.push.Reads as push-reads
-use Rattle.hull.proofs.starts_row.Reads as starts-row-reads
+-- `hull::descend` meets its contract: a turn of the loop passes one point more. Assumes nothing.
 use Prim.Native.Nat.{ℕ, suc, _≤_, _<_, _+_, _-_}
 use mathlib.Core.Path.{_≡_, refl, sym, _∙_, ap, subst}
 use native.Mathlib.Omega.{arith}
@@ -12,6 +7,8 @@ use lib.ListN.{length, getD}
 use Rattle.hull.specs.Scanning.{StartsRow}
 use Rattle.hull.proofs.Climbing.{Descending, descending-start, descending-pushable, descending-push, descending-skip, descending-end}
 use Rattle.packed.proofs.Tests.{tells-yes, tells-no}
+use Rattle.hull.proofs.descend.Statement.{statement}
+use Rattle.hull.proofs.descend.Tie as tie
 
 abbrev Inv-loop : tie.InvT-loop
 Inv-loop keys stack₀ base top₀ i₀ stack top i = (length stack ≡ length stack₀) × Descending keys stack₀ base stack top i

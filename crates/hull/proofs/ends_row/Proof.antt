@@ -1,19 +1,18 @@
-use borrow.Author.Needs.{needs}
-use Rattle.hull.proofs.ends_row.Statement.{statement}
-use Rattle.hull.proofs.ends_row.Tie as tie
-use Rattle.hull.proofs.ends_row.Reads as reads
-use Rattle.hull.proofs.ends_row.Lts as lts
+-- `hull::ends_row` meets its contract: a comparison of rows tells whether one ends. Assumes nothing.
+use Prim.Native.Nat.{suc, _+_, _/_}
 use mathlib.Core.Path.{_≡_, sym, subst}
 use mathlib.Core.Bool.{not}
-use Prim.Native.Nat.{suc, _+_, _/_}
 use native.Mathlib.Omega.{arith}
 use native.Mathlib.Numerals.{add-one}
+use borrow.Author.Needs.{needs}
 use denote.Ref.{now}
 use lib.Dec.{eqb}
 use Rattle.packed.specs.Packed.{Tells}
 use Rattle.packed.proofs.Tests.{tells-as}
 use Rattle.hull.specs.Scanning.{EndsRow}
 use Rattle.hull.proofs.Rows.{rowAt, told-apart}
+use Rattle.hull.proofs.ends_row.Statement.{statement}
+use Rattle.hull.proofs.ends_row.Tie as tie
 
 add-if1 : tie.Need-add-if1
 add-if1 c = search needs

@@ -1,8 +1,4 @@
-use Rattle.hull.proofs.push.Statement.{statement}
-use Rattle.hull.proofs.push.Tie as tie
-use Rattle.hull.proofs.push.Reads as reads
-use Rattle.hull.proofs.push.Lts as lts
-use Rattle.packed.proofs.left.Reads as left-reads
+-- `hull::push` meets its contract: a turn of the loop pops one point more. Assumes nothing.
 use Prim.Native.Nat.{ℕ, suc, _≤_, _<_, _+_, _-_}
 use mathlib.Core.Path.{_≡_, sym, _∙_, ap, subst}
 use native.Mathlib.Omega.{arith}
@@ -15,6 +11,8 @@ use Rattle.packed.specs.Packed.{unpacked}
 use Rattle.packed.proofs.Tests.{lt-yes, lt-no}
 use Rattle.hull.specs.Scanning.{at}
 use Rattle.hull.proofs.Popping.{Popping, popping-none, popping-below, popping-more, popping-ends}
+use Rattle.hull.proofs.push.Statement.{statement}
+use Rattle.hull.proofs.push.Tie as tie
 
 abbrev Inv-loop : tie.InvT-loop
 Inv-loop stack₀ base top k last₀ stack last = Popping stack₀ base top k stack last

@@ -1,18 +1,17 @@
-use borrow.Author.Needs.{needs}
-use Rattle.hull.proofs.starts_row.Statement.{statement}
-use Rattle.hull.proofs.starts_row.Tie as tie
-use Rattle.hull.proofs.starts_row.Reads as reads
-use Rattle.hull.proofs.starts_row.Lts as lts
+-- `hull::starts_row` meets its contract: a comparison of rows tells whether one starts. Assumes nothing.
+use Prim.Native.Nat.{suc, _-_, _/_}
 use mathlib.Core.Path.{_≡_, sym, subst}
 use mathlib.Core.Bool.{not}
-use Prim.Native.Nat.{suc, _-_, _/_}
 use native.Mathlib.Omega.{arith}
+use borrow.Author.Needs.{needs}
 use denote.Ref.{now}
 use lib.Dec.{eqb}
 use Rattle.packed.specs.Packed.{Tells}
 use Rattle.packed.proofs.Tests.{tells-as}
 use Rattle.hull.specs.Scanning.{StartsRow}
 use Rattle.hull.proofs.Rows.{rowAt, told-apart}
+use Rattle.hull.proofs.starts_row.Statement.{statement}
+use Rattle.hull.proofs.starts_row.Tie as tie
 
 sub-result : tie.Need-sub-result
 sub-result c = search needs
