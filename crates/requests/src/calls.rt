@@ -19,12 +19,32 @@ pub fn bad(source: Source, sink: Sink) -> State {
     }
 }
 
-// An answer whose last number is written.
-fn answered(output: &mut [u8], source: Source, sink: Sink) -> State {
-    State {
-        source,
-        sink: writing::line_end(output, sink),
+// What Row ends and Row are asked: a list, in the first `count` numbers of its array, and a row.
+struct RowAsked {
+    count: usize,
+    y: i32,
+    source: Source,
+}
+
+// Reads `LIST y`.
+fn read_row(input: &mut [u8], list: &mut [i32], source: Source) -> RowAsked {
+    let listed = parts::read_list(input, source, list);
+    let row = reading::next_number(input, listed.source);
+    let y = row.value;
+    let behind = row.source;
+    RowAsked {
+        count: listed.count,
+        y,
+        source: behind,
     }
+}
+
+// Answers `begin end`.
+fn write_row_ends(output: &mut [u8], list: &[i32], y: i32, sink: Sink) -> Sink {
+    let ends = order::row_ends(list, y);
+    let begin = writing::natural(output, sink, ends.begin as u64);
+    let end = writing::natural(output, begin, ends.end as u64);
+    writing::line_end(output, end)
 }
 
 // Row ends: `5 LIST y`.
@@ -35,17 +55,24 @@ pub fn row_ends(
     source: Source,
     sink: Sink,
 ) -> State {
-    let listed = parts::list(input, source, list);
-    let count = listed.count;
-    let row = reading::number(input, listed.source);
-    let behind = row.source;
+    let asked = read_row(input, list, source);
+    let behind = asked.source;
     if reading::is_whole(behind) {
-        let ends = order::row_ends(&list[..count], row.value);
-        let begin = writing::natural(output, sink, ends.begin as u64);
-        let end = writing::natural(output, begin, ends.end as u64);
-        return answered(output, behind, end);
+        let count = parts::within(asked.count, list);
+        let written = write_row_ends(output, &list[..count], asked.y, sink);
+        return State {
+            source: behind,
+            sink: written,
+        };
     }
     bad(behind, sink)
+}
+
+// Answers the numbers of the part.
+fn write_row(output: &mut [u8], list: &[i32], y: i32, sink: Sink) -> Sink {
+    let part = order::row(list, y);
+    let written = writing::list(output, sink, part);
+    writing::line_end(output, written)
 }
 
 // Row: `6 LIST y`.
@@ -56,14 +83,15 @@ pub fn row(
     source: Source,
     sink: Sink,
 ) -> State {
-    let listed = parts::list(input, source, list);
-    let count = listed.count;
-    let row = reading::number(input, listed.source);
-    let behind = row.source;
+    let asked = read_row(input, list, source);
+    let behind = asked.source;
     if reading::is_whole(behind) {
-        let part = order::row(&list[..count], row.value);
-        let written = writing::list(output, sink, part);
-        return answered(output, behind, written);
+        let count = parts::within(asked.count, list);
+        let written = write_row(output, &list[..count], asked.y, sink);
+        return State {
+            source: behind,
+            sink: written,
+        };
     }
     bad(behind, sink)
 }

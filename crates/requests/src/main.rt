@@ -29,6 +29,12 @@ fn answered(
     }
 }
 
+// Says that a request is bad.
+fn told(output: &mut [u8], sink: Sink) -> Sink {
+    let last = writing::bytes(output, sink, b"bad request\n");
+    writing::flushed(output, last)
+}
+
 // The next request. At the end of the input and behind a bad request nothing is left to read, and the source is no
 // longer sound.
 fn turn(
@@ -38,7 +44,7 @@ fn turn(
     source: Source,
     sink: Sink,
 ) -> State {
-    let first = reading::byte(input, source);
+    let first = reading::next_byte(input, source);
     if first.value == reading::INPUT_END {
         let last = writing::flushed(output, sink);
         return calls::bad(first.source, last);
@@ -49,8 +55,7 @@ fn turn(
     if behind.sound {
         return state;
     }
-    let told = writing::bytes(output, state.sink, b"bad request\n");
-    let last = writing::flushed(output, told);
+    let last = told(output, state.sink);
     calls::bad(behind, last)
 }
 

@@ -1,6 +1,6 @@
 // The parts of a request that the calls share: lists and rooms, read into arrays of the caller's, and what a call left
 // in a room.
-ghost use Rattle.io.specs.Counts.{Counts};
+ghost use Rattle.requests.specs.Counts.{Counts};
 use crate::reading;
 use crate::reading::Source;
 use crate::writing;
@@ -24,7 +24,7 @@ fn numbers(input: &mut [u8], source: Source, part: &mut [i32]) -> Source {
     let mut last = source;
     let mut i: usize = 0;
     while i < part.len() {
-        let read = reading::number(input, last);
+        let read = reading::next_number(input, last);
         let value = read.value;
         part[i] = value;
         last = read.source;
@@ -33,18 +33,26 @@ fn numbers(input: &mut [u8], source: Source, part: &mut [i32]) -> Source {
     last
 }
 
-// A list: how many numbers, and the numbers.
-pub fn list(input: &mut [u8], source: Source, array: &mut [i32]) -> Listed
-    ensures { λ r. ⌜ Counts (r .count) (now (array .exit)) ⌝ }
+// A count, if an array has that many numbers, and else 0. It takes the array and not its length, so that its contract
+// can speak of the array, and a part is lent with no further proof.
+pub fn within(count: usize, array: &[i32]) -> usize
+    ensures { λ r. ⌜ Counts r (now (array .entry)) ⌝ }
 {
-    let read = reading::count(input, source);
-    let count = read.value;
-    let behind = read.source;
     if count <= array.len() {
-        let last = numbers(input, behind, &mut array[..count]);
+        return count;
+    }
+    0
+}
+
+// A list: how many numbers, and the numbers.
+pub fn read_list(input: &mut [u8], source: Source, array: &mut [i32]) -> Listed {
+    let read = reading::next_count(input, source);
+    let count = within(read.value, array);
+    let behind = numbers(input, read.source, &mut array[..count]);
+    if count == read.value {
         return Listed {
             count,
-            source: last,
+            source: behind,
         };
     }
     Listed {
@@ -77,22 +85,19 @@ fn fill(part: &mut [i32], first: i32) -> usize {
 }
 
 // A room: its length and its first number.
-pub fn room(input: &mut [u8], source: Source, array: &mut [i32]) -> Room
-    ensures { λ r. ⌜ Counts (r .length) (now (array .exit)) ⌝ }
-{
-    let read = reading::count(input, source);
-    let length = read.value;
-    let number = reading::number(input, read.source);
+pub fn read_room(input: &mut [u8], source: Source, array: &mut [i32]) -> Room {
+    let read = reading::next_count(input, source);
+    let number = reading::next_number(input, read.source);
     let first = number.value;
     let behind = number.source;
-    if length <= array.len() {
-        if fill(&mut array[..length], first) == length {
-            return Room {
-                length,
-                first,
-                source: behind,
-            };
-        }
+    let length = within(read.value, array);
+    let filled = fill(&mut array[..length], first);
+    if filled == read.value {
+        return Room {
+            length,
+            first,
+            source: behind,
+        };
     }
     Room {
         length: 0,
@@ -120,7 +125,7 @@ fn changed(part: &[i32], first: i32) -> usize
 }
 
 // What a call left in a room.
-pub fn left(output: &mut [u8], sink: Sink, part: &[i32], first: i32) -> Sink {
+pub fn write_room(output: &mut [u8], sink: Sink, part: &[i32], first: i32) -> Sink {
     let count = changed(part, first);
     writing::list(output, sink, &part[..count])
 }

@@ -2,7 +2,6 @@
 //
 // A fault stays: once a source is not sound, every further number is 0, and the source stays as it is. So a request
 // is read to its end first, and asked once whether all of it was sound.
-ghost use Prim.Native.Nat.{_≤_};
 use libc::STDIN_FILENO;
 
 // What ends a number: a blank inside a request, a line end behind one. No request has a byte 0, so the end of the
@@ -117,7 +116,7 @@ fn refilled(input: &mut [u8], source: Source) -> Byte {
 }
 
 // The next byte.
-pub fn byte(input: &mut [u8], source: Source) -> Byte {
+pub fn next_byte(input: &mut [u8], source: Source) -> Byte {
     let at = source.at;
     if at < source.fill {
         if at < input.len() {
@@ -149,13 +148,13 @@ fn with_digit(magnitude: u64, digit: u8) -> u64 {
 }
 
 // The digits from a first byte on: one more than a number may have, at most.
-fn digits(input: &mut [u8], first: Byte) -> Digits {
+fn digits_from(input: &mut [u8], first: Byte) -> Digits {
     let mut magnitude: u64 = 0;
     let mut count: u32 = 0;
     let mut behind = first;
     while count <= MOST_DIGITS && is_digit(behind.value) {
         magnitude = with_digit(magnitude, behind.value);
-        behind = byte(input, behind.source);
+        behind = next_byte(input, behind.source);
         count += 1;
     }
     Digits {
@@ -182,7 +181,7 @@ fn is_plain(first: u8, count: u32) -> bool {
 // The number whose first digit was read.
 fn word_at(input: &mut [u8], first: Byte, negative: bool) -> Word {
     let begin = first.value;
-    let read = digits(input, first);
+    let read = digits_from(input, first);
     let magnitude = read.magnitude;
     let behind = read.behind;
     let source = behind.source;
@@ -203,16 +202,16 @@ fn word_at(input: &mut [u8], first: Byte, negative: bool) -> Word {
 // The number whose first byte was read.
 fn word_from(input: &mut [u8], first: Byte) -> Word {
     if first.value == MINUS {
-        let next = byte(input, first.source);
+        let next = next_byte(input, first.source);
         return word_at(input, next, true);
     }
     word_at(input, first, false)
 }
 
 // The next number of a request: a single blank stands before it.
-fn word(input: &mut [u8], source: Source) -> Word {
+fn next_word(input: &mut [u8], source: Source) -> Word {
     if source.sound && source.last == BLANK {
-        let first = byte(input, source);
+        let first = next_byte(input, source);
         return word_from(input, first);
     }
     Word {
@@ -249,8 +248,8 @@ fn signed(magnitude: u64, negative: bool) -> i32 {
 }
 
 // The next number of a request, a signed 32-bit number.
-pub fn number(input: &mut [u8], source: Source) -> Number {
-    let read = word(input, source);
+pub fn next_number(input: &mut [u8], source: Source) -> Number {
+    let read = next_word(input, source);
     let behind = read.source;
     if is_signed(read.magnitude, read.negative) {
         return Number {
@@ -280,8 +279,8 @@ fn counted(read: Word) -> Count {
 }
 
 // The next number of a request, a count.
-pub fn count(input: &mut [u8], source: Source) -> Count {
-    counted(word(input, source))
+pub fn next_count(input: &mut [u8], source: Source) -> Count {
+    counted(next_word(input, source))
 }
 
 // The number of a request's call, whose first byte was read.

@@ -1,5 +1,5 @@
 // Lines of numbers to standard output, through a buffer of the caller's that is written out whenever it is full.
-ghost use Prim.Native.Nat.{_≤_};
+ghost use Prim.Native.Nat.{_<_};
 use crate::reading::BLANK;
 use crate::reading::LINE_END;
 use libc::STDOUT_FILENO;
@@ -100,23 +100,37 @@ pub fn natural(output: &mut [u8], sink: Sink, value: u64) -> Sink {
     digits(output, begun, value)
 }
 
-// The magnitude of a negative number. The complement of n is -n - 1, and no difference of signed numbers is needed.
-fn magnitude(value: i32) -> u64 {
-    let below = !value;
-    if below < 0 {
+// A natural number; 0 for a negative one.
+fn natural_of(value: i32) -> u64
+    ensures { λ r. ⌜ r < 2147483648 ⌝ }
+{
+    if value < 0 {
         return 0;
     }
-    below as u64 + 1
+    value as u64
+}
+
+// The magnitude of a number. The complement of n is -n - 1, so no difference of signed numbers is needed.
+fn magnitude(value: i32) -> u64 {
+    if value < 0 {
+        return natural_of(!value) + 1;
+    }
+    natural_of(value)
+}
+
+// The minus before the digits of a negative number.
+fn signed(output: &mut [u8], sink: Sink, value: i32) -> Sink {
+    if value < 0 {
+        return byte(output, sink, MINUS);
+    }
+    sink
 }
 
 // A number.
 pub fn number(output: &mut [u8], sink: Sink, value: i32) -> Sink {
-    if value < 0 {
-        let begun = separated(output, sink);
-        let signed = byte(output, begun, MINUS);
-        return digits(output, signed, magnitude(value));
-    }
-    natural(output, sink, value as u64)
+    let begun = separated(output, sink);
+    let begun = signed(output, begun, value);
+    digits(output, begun, magnitude(value))
 }
 
 // The numbers of a list.
