@@ -9,18 +9,23 @@ mod writing;
 use calls::State;
 use reading::Source;
 use writing::Sink;
+ghost use Prim.Native.Nat.{_<_};
 
-// The longest list of a request.
-const MOST_LISTED: usize = 20000;
+// The most numbers of a list or a room.
+const MOST_NUMBERS: usize = 40000;
 
-// One request, by the number of its call.
+// One request, by the number of its call. The arrays are lent to every call, each for the part whose name it has:
+// `ordered` is also the point room of Rebuild, and `corners` and `missing` are its lists.
 fn answered(
     input: &mut [u8],
     output: &mut [u8],
     list: &mut [i32],
+    ordered: &mut [i32],
+    corners: &mut [i32],
+    missing: &mut [i32],
+    call: usize,
     source: Source,
     sink: Sink,
-    call: usize,
 ) -> State {
     match call {
         5 => calls::row_ends(input, output, list, source, sink),
@@ -29,53 +34,91 @@ fn answered(
     }
 }
 
-// Says that a request is bad.
-fn told(output: &mut [u8], sink: Sink) -> Sink {
-    let last = writing::bytes(output, sink, b"bad request\n");
-    writing::flushed(output, last)
+// A request that was read and answered; what is to be said of a bad one is said.
+fn settled(output: &mut [u8], source: Source, sink: Sink) -> State {
+    if source.sound {
+        return State { source, sink };
+    }
+    let told = writing::bytes(output, sink, b"bad request\n");
+    calls::bad(source, writing::flushed(output, told))
 }
 
-// The next request. At the end of the input and behind a bad request nothing is left to read, and the source is no
-// longer sound.
+// The next request. At the end of the input and behind a bad request nothing is left to do, and the source is no longer
+// sound.
 fn turn(
     input: &mut [u8],
     output: &mut [u8],
     list: &mut [i32],
+    ordered: &mut [i32],
+    corners: &mut [i32],
+    missing: &mut [i32],
     source: Source,
     sink: Sink,
 ) -> State {
-    let first = reading::next_byte(input, source);
-    if first.value == reading::INPUT_END {
-        let last = writing::flushed(output, sink);
-        return calls::bad(first.source, last);
+    let call = reading::next_call(input, source);
+    let behind = call.source;
+    if call.is_at_end {
+        return calls::bad(behind, writing::flushed(output, sink));
     }
-    let call = reading::call(input, first);
-    let state = answered(input, output, list, call.source, sink, call.value);
-    let behind = state.source;
-    if behind.sound {
-        return state;
+    let state = answered(
+        input,
+        output,
+        list,
+        ordered,
+        corners,
+        missing,
+        call.number,
+        behind,
+        sink,
+    );
+    settled(output, state.source, state.sink)
+}
+
+// How many turns are left after a turn: none where nothing is left to read, or what is written goes nowhere.
+fn left(turns: u64, source: Source, sink: Sink) -> u64
+    requires { ⌜ 0 < turns ⌝ }
+    ensures { λ r. ⌜ r < turns ⌝ }
+{
+    if source.sound && sink.open {
+        return turns - 1;
     }
-    let last = told(output, state.sink);
-    calls::bad(behind, last)
+    0
 }
 
 // All requests. A proved loop has to end, and nothing says that the input does. So the loop counts its turns down,
 // from a number that no run uses up.
-fn run(input: &mut [u8], output: &mut [u8], list: &mut [i32]) {
+fn run(
+    input: &mut [u8],
+    output: &mut [u8],
+    list: &mut [i32],
+    ordered: &mut [i32],
+    corners: &mut [i32],
+    missing: &mut [i32],
+) {
     let mut source = reading::start();
     let mut sink = writing::start();
     let mut turns = u64::MAX;
-    while turns > 0 && source.sound && sink.open {
-        let state = turn(input, output, list, source, sink);
+    while turns > 0 {
+        let state = turn(input, output, list, ordered, corners, missing, source, sink);
         source = state.source;
         sink = state.sink;
-        turns -= 1;
+        turns = left(turns, source, sink);
     }
 }
 
 fn main() {
     let mut input = io::large_buffer();
     let mut output = io::large_buffer();
-    let mut list = [0i32; MOST_LISTED];
-    run(&mut input, &mut output, &mut list);
+    let mut list = [0i32; MOST_NUMBERS];
+    let mut ordered = [0i32; MOST_NUMBERS];
+    let mut corners = [0i32; MOST_NUMBERS];
+    let mut missing = [0i32; MOST_NUMBERS];
+    run(
+        &mut input,
+        &mut output,
+        &mut list,
+        &mut ordered,
+        &mut corners,
+        &mut missing,
+    );
 }

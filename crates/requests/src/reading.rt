@@ -62,6 +62,13 @@ pub struct Count {
     pub source: Source,
 }
 
+// The number of a call, or that there is no further request.
+pub struct Call {
+    pub number: usize,
+    pub is_at_end: bool,
+    pub source: Source,
+}
+
 // Before the first byte.
 pub fn start() -> Source {
     Source {
@@ -283,7 +290,22 @@ pub fn next_count(input: &mut [u8], source: Source) -> Count {
     counted(next_word(input, source))
 }
 
-// The number of a request's call, whose first byte was read.
-pub fn call(input: &mut [u8], first: Byte) -> Count {
-    counted(word_from(input, first))
+// The number of the next request's call. Only between requests the input may end.
+pub fn next_call(input: &mut [u8], source: Source) -> Call {
+    let first = next_byte(input, source);
+    if first.value == INPUT_END {
+        let behind = first.source;
+        return Call {
+            number: 0,
+            is_at_end: true,
+            source: behind,
+        };
+    }
+    let number = counted(word_from(input, first));
+    let behind = number.source;
+    Call {
+        number: number.value,
+        is_at_end: false,
+        source: behind,
+    }
 }
