@@ -1,13 +1,15 @@
 // Answers requests from standard input on standard output, by the library's own calls, in the form that a second
 // program is compared over: one request a line, one answer a line. What is no request ends the run with a line of its
 // own, so that a comparison stops there.
-mod calls;
+mod asked;
 mod parts;
 mod reading;
+mod rows;
+mod state;
 mod writing;
 
-use calls::State;
 use reading::Source;
+use state::State;
 use writing::Sink;
 ghost use Prim.Native.Nat.{_<_};
 
@@ -28,9 +30,9 @@ fn answered(
     sink: Sink,
 ) -> State {
     match call {
-        5 => calls::row_ends(input, output, list, source, sink),
-        6 => calls::row(input, output, list, source, sink),
-        _ => calls::bad(source, sink),
+        5 => rows::row_ends(input, output, list, source, sink),
+        6 => rows::row(input, output, list, source, sink),
+        _ => state::bad(source, sink),
     }
 }
 
@@ -40,7 +42,7 @@ fn settled(output: &mut [u8], source: Source, sink: Sink) -> State {
         return State { source, sink };
     }
     let told = writing::bytes(output, sink, b"bad request\n");
-    calls::bad(source, writing::flushed(output, told))
+    state::bad(source, writing::flushed(output, told))
 }
 
 // The next request. At the end of the input and behind a bad request nothing is left to do, and the source is no longer
@@ -58,7 +60,7 @@ fn turn(
     let call = reading::next_call(input, source);
     let behind = call.source;
     if call.is_at_end {
-        return calls::bad(behind, writing::flushed(output, sink));
+        return state::bad(behind, writing::flushed(output, sink));
     }
     let state = answered(
         input,

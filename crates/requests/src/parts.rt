@@ -12,11 +12,23 @@ pub struct Listed {
     pub source: Source,
 }
 
-// A room: the first `length` numbers of an array, which hold `first`, `first` + 1, and so on.
+// A room: the first `length` numbers of an array, which hold `first`, `first` + 1, and so on before the call.
 pub struct Room {
     pub length: usize,
     pub first: i32,
+}
+
+pub struct RoomRead {
+    pub room: Room,
     pub source: Source,
+}
+
+// A room of no number, where a call has none.
+pub fn no_room() -> Room {
+    Room {
+        length: 0,
+        first: 0,
+    }
 }
 
 // Numbers for all of a part.
@@ -85,7 +97,7 @@ fn fill(part: &mut [i32], first: i32) -> usize {
 }
 
 // A room: its length and its first number.
-pub fn read_room(input: &mut [u8], source: Source, array: &mut [i32]) -> Room {
+pub fn read_room(input: &mut [u8], source: Source, array: &mut [i32]) -> RoomRead {
     let read = reading::next_count(input, source);
     let number = reading::next_number(input, read.source);
     let first = number.value;
@@ -93,15 +105,13 @@ pub fn read_room(input: &mut [u8], source: Source, array: &mut [i32]) -> Room {
     let length = within(read.value, array);
     let filled = fill(&mut array[..length], first);
     if filled == read.value {
-        return Room {
-            length,
-            first,
+        return RoomRead {
+            room: Room { length, first },
             source: behind,
         };
     }
-    Room {
-        length: 0,
-        first,
+    RoomRead {
+        room: Room { length: 0, first },
         source: reading::faulty(behind),
     }
 }
@@ -124,8 +134,15 @@ fn changed(part: &[i32], first: i32) -> usize
     count
 }
 
-// What a call left in a room.
-pub fn write_room(output: &mut [u8], sink: Sink, part: &[i32], first: i32) -> Sink {
+// A part of an array that a call left in a room: how many numbers up to the last that differs from what stood there
+// before, and these.
+fn write_part(output: &mut [u8], sink: Sink, part: &[i32], first: i32) -> Sink {
     let count = changed(part, first);
     writing::list(output, sink, &part[..count])
+}
+
+// What a call left in a room.
+pub fn write_room(output: &mut [u8], sink: Sink, array: &[i32], room: Room) -> Sink {
+    let length = within(room.length, array);
+    write_part(output, sink, &array[..length], room.first)
 }

@@ -1,23 +1,11 @@
-// The calls: each reads its request, asks the library, and writes the answer.
+// Row ends and Row.
 use crate::parts;
 use crate::reading;
 use crate::reading::Source;
+use crate::state;
+use crate::state::State;
 use crate::writing;
 use crate::writing::Sink;
-
-// What was read and what was written. A source that is not sound says that the request is bad.
-pub struct State {
-    pub source: Source,
-    pub sink: Sink,
-}
-
-// A request that is no request.
-pub fn bad(source: Source, sink: Sink) -> State {
-    State {
-        source: reading::faulty(source),
-        sink,
-    }
-}
 
 // What Row ends and Row are asked: a list, in the first `count` numbers of its array, and a row.
 struct RowAsked {
@@ -65,7 +53,7 @@ pub fn row_ends(
             sink: written,
         };
     }
-    bad(behind, sink)
+    state::bad(behind, sink)
 }
 
 // Answers the numbers of the part.
@@ -93,5 +81,5 @@ pub fn row(
             sink: written,
         };
     }
-    bad(behind, sink)
+    state::bad(behind, sink)
 }
