@@ -26,11 +26,11 @@ use Rattle.lattice.specs.Hull.{turn, Of}
 use Rattle.lattice.proofs.Turn.{coordinates, Left, turn-cyclic}
 use Rattle.lattice.proofs.Lists.{either, all-in}
 use Rattle.lattice.proofs.Places.{lt-or-le, in-place, place-in}
-use Rattle.lattice.proofs.RowKey.{along, Orders, opposite-back, before-key, key-before}
+use Rattle.lattice.proofs.RowKey.{keyBy, Orders, opposite-back, rangeWidth, before-key, key-before}
 use Rattle.lattice.proofs.Shape.{Shape, shape-test}
 use Rattle.lattice.proofs.Polygon.{Inside, polygon}
 use Rattle.lattice.proofs.Sandwich.{Spans}
-use Rattle.lattice.proofs.Scan.{Scanned, Over, bottom, stack-rises, stack-turns}
+use Rattle.lattice.proofs.Scan.{Scanned, Over, TurnsLeft, bottom, stack-rises, stack-turns}
 use Rattle.lattice.proofs.Stack.{
   stack,
   front,
@@ -53,9 +53,15 @@ pub bottom-stack : (f : ℕ → Point) (n : ℕ) → bottom (f n) (stack f n) �
 bottom-stack f zero = refl
 bottom-stack f (suc n) = bottom-stack f n
 
+-- a turn to the left on the stack, by place
+pub turns-left-place : (f : ℕ → Point) (n : ℕ) (p : Point) → ((j : ℕ) → suc j ≡ n → Left (f j) (f n) p)
+    → TurnsLeft p (f n) (stack f n)
+turns-left-place f zero p h = tt
+turns-left-place f (suc n) p h = h n refl
+
 -- s before z on the way up, u after z on the way down, o below all: at z the way turns left
-junction : (K : ℤ) (o s z u : Point) → (along K z -ℤ along K o) *ℤ turn s z u
-    ≡ (along K z -ℤ along K u) *ℤ turn s z o +ℤ (along K z -ℤ along K s) *ℤ turn z u o
+junction : (K : ℤ) (o s z u : Point) → (keyBy K z -ℤ keyBy K o) *ℤ turn s z u
+    ≡ (keyBy K z -ℤ keyBy K u) *ℤ turn s z o +ℤ (keyBy K z -ℤ keyBy K s) *ℤ turn z u o
 junction K o s z u = ring (K ∷ coordinates (o ∷ s ∷ z ∷ u ∷ [])) (search quote depth 20) tt
 
 -- what holds of the places below a and of those from a on
@@ -73,7 +79,7 @@ module _ (K : ℤ) (s : List Point) (order : Orders K (Of s)) (f : ℕ → Point
   places = front f (suc m + suc k)
 
   -- ---- the way up
-  up-rises : (i j : ℕ) → i < j → j < suc (suc m) → along K (f i) <ᶻ along K (f j)
+  up-rises : (i j : ℕ) → i < j → j < suc (suc m) → keyBy K (f i) <ᶻ keyBy K (f j)
   up-rises = stack-pairs-place f (Over (pos 1) K) (suc (suc m)) (stack-rises (pos 1) K (stack f (suc (suc m))) (up .stacked .rising))
 
   up-turns : (i j l : ℕ) → i < j → j < l → l < suc (suc m) → Left (f i) (f j) (f l)
@@ -88,12 +94,12 @@ module _ (K : ℤ) (s : List Point) (order : Orders K (Of s)) (f : ℕ → Point
   down-triples : Triples (λ u v w. Left w v u) (f zero ∷ stack g (suc k))
   down-triples = stack-turns (negsuc 0) (negℤ K) (f zero ∷ stack g (suc k)) (down .stacked .rising) (down .stacked .bent)
 
-  down-end : (j : ℕ) → j < suc k → along K (f zero) <ᶻ along K (g j)
+  down-end : (j : ℕ) → j < suc k → keyBy K (f zero) <ᶻ keyBy K (g j)
   down-end j h =
       opposite-back K (f zero) (g j)
       (all-in (Over (negsuc 0) (negℤ K) (f zero)) (stack g (suc k)) (down-pairs .0) (g j) (stack-in g (suc k) j h))
 
-  down-falls : (i j : ℕ) → i < j → j < suc k → along K (g j) <ᶻ along K (g i)
+  down-falls : (i j : ℕ) → i < j → j < suc k → keyBy K (g j) <ᶻ keyBy K (g i)
   down-falls i j h l = opposite-back K (g j) (g i) (stack-pairs-place g (Over (negsuc 0) (negℤ K)) (suc k) (down-pairs .1) i j h l)
 
   down-seen : (i j : ℕ) → i < j → j < suc k → Left (g i) (g j) (f zero)
@@ -112,9 +118,9 @@ module _ (K : ℤ) (s : List Point) (order : Orders K (Of s)) (f : ℕ → Point
   first : (i : ℕ) → suc i < suc m + suc k → Before (f zero) (f (suc i))
   first i h = order .follows (f zero) (f (suc i)) (held zero (omega arith)) (held (suc i) h) (after (suc i) h (omega arith))
     where
-      after : (i : ℕ) → i < suc m + suc k → 0 < i → along K (f zero) <ᶻ along K (f i)
+      after : (i : ℕ) → i < suc m + suc k → 0 < i → keyBy K (f zero) <ᶻ keyBy K (f i)
       after =
-          by-parts (λ i. 0 < i → along K (f zero) <ᶻ along K (f i)) (suc m) (suc k)
+          by-parts (λ i. 0 < i → keyBy K (f zero) <ᶻ keyBy K (f i)) (suc m) (suc k)
           (λ i h l. up-rises zero i l (omega arith)) (λ j h l. down-end j h)
 
   -- two neighbours on the way down, by place
@@ -138,7 +144,7 @@ module _ (K : ℤ) (s : List Point) (order : Orders K (Of s)) (f : ℕ → Point
   at-top (suc i) e h =
       positive-by-products (junction K (f zero) (f (suc i)) z u)
       (gap (f zero) z (up-rises zero (suc (suc i)) (omega arith) (omega arith)))
-      (gap u z (on-way-down (λ a b. along K b <ᶻ along K a) (λ j n. down-falls j (suc j) (omega arith) n)
+      (gap u z (on-way-down (λ a b. keyBy K b <ᶻ keyBy K a) (λ j n. down-falls j (suc j) (omega arith) n)
       (suc (suc i)) (omega arith) (omega arith)))
       (subst Positive (turn-cyclic (f zero) (f (suc i)) z) (up-turns zero (suc i) (suc (suc i)) (omega arith) (omega arith) (omega arith)))
       (gap (f (suc i)) z (up-rises (suc i) (suc (suc i)) (omega arith) (omega arith)))
@@ -150,7 +156,7 @@ module _ (K : ℤ) (s : List Point) (order : Orders K (Of s)) (f : ℕ → Point
       u : Point
       u = f (suc (suc (suc i)))
 
-      gap : (a b : Point) → along K a <ᶻ along K b → Positive (along K b -ℤ along K a)
+      gap : (a b : Point) → keyBy K a <ᶻ keyBy K b → Positive (keyBy K b -ℤ keyBy K a)
       gap a b h = linear< (K ∷ coordinates (a ∷ b ∷ [])) (gap< h) (search quote depth 20) tt
 
   bends : (i : ℕ) → suc (suc i) < suc m + suc k → Left (f i) (f (suc i)) (f (suc (suc i)))
@@ -207,16 +213,18 @@ module _ (K : ℤ) (s : List Point) (order : Orders K (Of s)) (f : ℕ → Point
           let l : i < length places = omega (arith, length-front f (suc m + suc k)) in
           subst (λ z. In z places) (at i l) (place-in places i l)
 
-      not-lower : along K q <ᶻ along K (f zero) → ⊥
+      not-lower : keyBy K q <ᶻ keyBy K (f zero) → ⊥
       not-lower h =
           linear⊥ (K ∷ coordinates (q ∷ f zero ∷ []))
-          (gap< h ⊞ gap≤ (subst (λ z. along K z ≤ᶻ along K q) (bottom-stack f (suc m)) (up .stacked .lowest q n))) (search quote depth 20) tt
+          (gap< h ⊞ gap≤ (subst (λ z. keyBy K z ≤ᶻ keyBy K q) (bottom-stack f (suc m)) (up .stacked .lowest q n)))
+          (search quote depth 20) tt
 
-      not-higher : along K (f (suc m)) <ᶻ along K q → (q ≡ f (suc m)) ⊎ (along K q <ᶻ along K (f (suc m))) → ⊥
+      not-higher : keyBy K (f (suc m)) <ᶻ keyBy K q → (q ≡ f (suc m)) ⊎ (keyBy K q <ᶻ keyBy K (f (suc m))) → ⊥
       not-higher h (inl e) =
-          linear⊥ (K ∷ coordinates (q ∷ [])) (gap< (subst (λ z. along K z <ᶻ along K q) (sym e) h)) (search quote depth 20) tt
+          linear⊥ (K ∷ coordinates (q ∷ [])) (gap< (subst (λ z. keyBy K z <ᶻ keyBy K q) (sym e) h)) (search quote depth 20) tt
       not-higher h (inr l) = linear⊥ (K ∷ coordinates (q ∷ f (suc m) ∷ [])) (gap< h ⊞ gap< l) (search quote depth 20) tt
 
+  -- the theorem, for any K that orders the points
   pub chains-span : Spans s places
   chains-span = record {
     shape = shape;
@@ -224,13 +232,13 @@ module _ (K : ℤ) (s : List Point) (order : Orders K (Of s)) (f : ℕ → Point
     cover = λ q n. polygon places shape q .1 (within q n);
   }
 
--- for points in range, by the key
+-- for points in range, by the key: places 0 to m + 1 hold the way up, m + 1 to m + 1 + k the way down, and all of them span s
 pub both-chains : (s : List Point) → All InRange s → (f : ℕ → Point) (m k : ℕ)
-    → Upward (pos 16384) (Of s) (f (suc m)) (stack f (suc m))
-    → Downward (pos 16384) (Of s) (f zero) (stack (λ i. f (suc m + i)) (suc k))
+    → Upward (pos rangeWidth) (Of s) (f (suc m)) (stack f (suc m))
+    → Downward (pos rangeWidth) (Of s) (f zero) (stack (λ i. f (suc m + i)) (suc k))
     → Spans s (front f (suc m + suc k))
 both-chains s r =
-    chains-span (pos 16384) s record {
+    chains-span (pos rangeWidth) s record {
       rises = λ a b i j. before-key a b (all-in InRange s r a i) (all-in InRange s r b j);
       follows = λ a b i j. key-before a b (all-in InRange s r a i) (all-in InRange s r b j);
     }

@@ -1,24 +1,24 @@
 -- Every list of points has one corner list; it has the same hull, and depends only on which points the list holds. The corner lists are
--- the lists of the shape, each the corner list of itself. The hull of the hull adds nothing. Assumes nothing.
+-- the lists of the shape, each the corner list of itself. Assumes nothing.
 use mathlib.Core.Path.{_≡_, subst}
 use mathlib.Core.Logic.{_↔_}
-use mathlib.Core.List.{List, [], _∷_, _++_}
-use Rattle.lattice.specs.Point.{Point, All}
+use mathlib.Core.List.{List}
+use Rattle.lattice.specs.Point.{Point}
 use Rattle.lattice.specs.Hull.{InHull, Of, Rest, Corner, CornerList}
-use Rattle.lattice.proofs.Lists.{all-in, in-all, in-left, in-right, in-cases, all-map, either}
-use Rattle.lattice.proofs.HullLaws.{hull-larger, hull-of-few}
+use Rattle.lattice.proofs.HullLaws.{hull-larger}
 use Rattle.lattice.proofs.Shape.{Shape, ShapeTest, shape-test}
-use Rattle.lattice.proofs.Polygon.{hull-inside, polygon}
 use Rattle.lattice.proofs.Sandwich.{Spans, spans-itself, hull-of-spanned, corner-list-of-spanned}
 use Rattle.lattice.proofs.SameMembers.{Same, shape-unique}
 use Rattle.lattice.proofs.ScanAll.{spans-exist}
 
+-- every list of points has a corner list
 pub corner-list-exists : (s : List Point) → (c : List Point) × CornerList s c
 corner-list-exists s = let r = spans-exist s in (r .0, corner-list-of-spanned s (r .0) (r .1))
 
 pub corner-list-shape : (s c : List Point) → CornerList s c → Shape c
 corner-list-shape s c h = record { start = h .start; three = h .three }
 
+-- and only one
 pub corner-list-unique : (s c d : List Point) → CornerList s c → CornerList s d → c ≡ d
 corner-list-unique s c d h g =
     shape-unique c d (corner-list-shape s c h) (corner-list-shape s d g)
@@ -53,6 +53,7 @@ corner-list-same s t e c h = record {
 }
 
 -- ---- the corner lists are the lists of the shape
+-- a list has the shape exactly if it is the corner list of itself
 pub shape-corner-list : (c : List Point) → Shape c ↔ CornerList c c
 shape-corner-list c = (
   (λ h. corner-list-of-spanned c c (spans-itself c h)),
@@ -66,35 +67,3 @@ corner-list-test c = ((λ t. shape-corner-list c .0 (shape-test c .0 t)), (λ h.
 -- c is the corner list of itself exactly if it is that of some list
 pub corner-list-of-some : (c : List Point) → CornerList c c ↔ ((s : List Point) × CornerList s c)
 corner-list-of-some c = ((λ h. (c, h)), (λ h. shape-corner-list c .0 (corner-list-shape (h .0) c (h .1))))
-
--- ---- the hull of the hull
-few-behind : (S : Point → Type 0) (l : List Point) → All (InHull S) l → (t : List Point) × All S t × All (InHull (Of t)) l
-few-behind S [] h = ([], tt, tt)
-few-behind S (a ∷ l) h =
-    let f = hull-of-few S a (h .0) in
-    let r = few-behind S l (h .1) in
-    let t = f .0 ++ r .0 in (
-      t,
-      in-all S t (λ q m. either (in-cases q (f .0) (r .0) m) (all-in S (f .0) (f .1) q) (all-in S (r .0) (r .1) q)),
-      (
-        hull-larger (Of (f .0)) (Of t) (λ q. in-left q (f .0) (r .0)) a (f .2),
-        all-map (InHull (Of (r .0))) (InHull (Of t)) (hull-larger (Of (r .0)) (Of t) (λ q. in-right q (f .0) (r .0))) l (r .2),
-      ),
-    )
-
--- points in the hull of a list add nothing to it
-pub hull-of-list : (t : List Point) (M : Point → Type 0) → ((q : Point) → M q → InHull (Of t) q)
-    → (p : Point) → InHull M p → InHull (Of t) p
-hull-of-list t M f p h =
-    let c = spans-exist t in
-    let within = hull-of-spanned t (c .0) (c .1) in
-    let inside = polygon (c .0) (c .1 .shape) in
-    within p .1 (inside p .1 (hull-inside (c .0) M (λ q m. inside q .0 (within q .0 (f q m))) p h))
-
--- the hull of the hull is the hull
-pub hull-of-hull : (S : Point → Type 0) (p : Point) → InHull (InHull S) p → InHull S p
-hull-of-hull S p h =
-    let l = hull-of-few (InHull S) p h in
-    let t = few-behind S (l .0) (l .1) in
-    hull-larger (Of (t .0)) S (all-in S (t .0) (t .1)) p
-    (hull-of-list (t .0) (Of (l .0)) (all-in (InHull (Of (t .0))) (l .0) (t .2)) p (l .2))

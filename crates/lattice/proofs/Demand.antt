@@ -1,14 +1,17 @@
 -- Corners and missing points tell the points: equal lists mean equal grains, the points are the hull of the corners without the missing
 -- points, and what Rebuild makes of corners and missing points has them again. Assumes nothing.
-use mathlib.Core.Path.{_≡_, sym, subst}
+use mathlib.Core.Path.{_≡_, refl, sym, subst}
 use mathlib.Core.Logic.{inl, inr, _↔_}
 use mathlib.Core.List.{List}
-use Rattle.lattice.specs.Point.{Point, In, All, Pairs, Before, Lists}
+use Prim.Native.Nat.{ℕ, suc}
+use Rattle.lattice.specs.Point.{Point, point, In, All, Pairs, Before, Lists}
 use Rattle.lattice.specs.Hull.{InHull, member, Of, CornerList, MissingList, Kept}
-use Rattle.lattice.specs.Refusal.{Misplaced}
+use Rattle.lattice.specs.Refusal.{Table, Gives, Whole, Strays, Misplaced, rebuildRows}
 use Rattle.lattice.proofs.Lists.{either, all-in}
-use Rattle.lattice.proofs.Decide.{yes-or-no, in?, hull?}
+use Rattle.lattice.proofs.Places.{place-all, place-chain}
+use Rattle.lattice.proofs.Decide.{yes-or-no, before?, in?, hull?, cornerList?}
 use Rattle.lattice.proofs.HullLaws.{hull-larger}
+use Rattle.lattice.proofs.RowOrder.{row-order-by-neighbours}
 use Rattle.lattice.proofs.Sandwich.{Spans, hull-of-spanned, corner-list-of-spanned}
 use Rattle.lattice.proofs.SameMembers.{Subset, Same, lists-same}
 use Rattle.lattice.proofs.CornerLists.{corner-list-shape, corner-list-unique, corner-list-same, hull-of-corners}
@@ -22,6 +25,7 @@ kept-exactly s c m h g p = (
   (λ i. record { within = hull-of-corners s c h p .0 (member i); kept = λ j. g .only p j .lacks i }),
 )
 
+-- so to list what is kept is to list the points
 pub lists-kept : (s c m : List Point) → CornerList s c → MissingList s m → (o : List Point) → Lists (Kept c m) o ↔ Lists (Of s) o
 lists-kept s c m h g o = (
   lists-same (Kept c m) (Of s) (λ p. kept-exactly s c m h g p .0) (λ p. kept-exactly s c m h g p .1) o,
@@ -68,3 +72,21 @@ rebuild-owes c m s h o f g = (
 
     spans : Spans s c
     spans = record { shape = corner-list-shape c c h; inside = held; cover = λ q i. g .only q i .within }
+
+-- corners and missing points that Rebuild does not decline by number 8, 9 or 10
+pub rebuild-accepts : (c m : List Point) (later : Table) (n i : ℕ) → Gives (rebuildRows c m later) n i
+    → (n ≡ 8 → ⊥) → (n ≡ 9 → ⊥) → (n ≡ 10 → ⊥) → CornerList c c × Pairs Before m × All (λ p. Misplaced c p → ⊥) m
+rebuild-accepts c m later n i g not-8 not-9 not-10 =
+    either g (λ h. absurd (not-8 (h .0)))
+    (λ h. either (h .1) (λ k. absurd (not-9 (k .0)))
+    (λ k. either (k .1) (λ l. absurd (not-10 (l .0)))
+    (λ l. (corners (h .0), in-order (k .0), place-all (λ p. Misplaced c p → ⊥) m (λ j f e. l .0 j (f, e))))))
+  where
+    corners : ((j : ℕ) → Whole (CornerList c c → ⊥) j → ⊥) → CornerList c c
+    corners f = either (yes-or-no (cornerList? c c)) (λ h. h) (λ k. absurd (f 0 (refl, k)))
+
+    in-order : ((j : ℕ) → Strays m j → ⊥) → Pairs Before m
+    in-order f =
+        row-order-by-neighbours m
+        (place-chain Before m
+        (λ j l. either (yes-or-no (before? (point m j) (point m (suc j)))) (λ h. h) (λ k. absurd (f (suc j) (l, (j, refl, k))))))

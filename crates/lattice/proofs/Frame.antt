@@ -27,6 +27,7 @@ use Rattle.lattice.specs.Hull.{InHull}
 use Rattle.lattice.proofs.Turn.{coordinates}
 use Rattle.lattice.proofs.Lists.{either, in-all, in-left, in-right, in-cases, pairs-append}
 use Rattle.lattice.proofs.HalfPlane.{point-equal, half-plane}
+use Rattle.lattice.proofs.RowKey.{rangeWidth}
 use Rattle.lattice.proofs.Decide.{Decided, keep, keep-in, in-keep, pairs-keep}
 
 -- w points from (x, y) on along the row; h such rows
@@ -143,7 +144,7 @@ listed-by-frame P d x y w h f = record {
 -- ---- the range is a frame, so the hull of points in range is in range
 pub hull-in-range : (S : Point → Type 0) → ((q : Point) → S q → InRange q) → (p : Point) → InHull S p → InRange p
 hull-in-range S f p i =
-    let r = hull-framed least least 16384 16384 S framed p i in
+    let r = hull-framed least least rangeWidth rangeWidth S framed p i in
     record {
       x-from = r .left;
       x-to = linear≤ (p .x ∷ []) (gap< (r .right)) (search quote depth 20) tt;
@@ -151,7 +152,7 @@ hull-in-range S f p i =
       y-to = linear≤ (p .y ∷ []) (gap< (r .high)) (search quote depth 20) tt;
     }
   where
-    framed : (q : Point) → S q → Framed least least 16384 16384 q
+    framed : (q : Point) → S q → Framed least least rangeWidth rangeWidth q
     framed q m = record {
       left = f q m .x-from;
       right = linear< (q .x ∷ []) (gap≤ (f q m .x-to)) (search quote depth 20) tt;

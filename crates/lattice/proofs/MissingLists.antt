@@ -1,18 +1,21 @@
 -- Every list of points has one missing list; it depends only on which points the list holds; it is empty exactly if the list is convex;
 -- and it is as long as the hull has lattice points less the points held. Assumes nothing.
-use mathlib.Core.Path.{_≡_, refl, subst}
+use mathlib.Core.Path.{_≡_, refl, sym, subst}
 use mathlib.Core.Logic.{inl, _↔_}
 use mathlib.Core.List.{List, [], _∷_}
 use Prim.Native.Nat.{_+_}
 use native.Mathlib.Omega.{arith}
 use lib.ListN.{length}
-use Rattle.lattice.specs.Point.{Point, In, Pairs, Lists}
+use Rattle.lattice.specs.Point.{Point, In, Pairs, Before, Lists}
 use Rattle.lattice.specs.Hull.{InHull, member, Of, Missing, MissingList, Convex, Kept}
+use Rattle.lattice.specs.Grains.{firstOf}
+use Rattle.lattice.proofs.Lists.{either, all-in}
 use Rattle.lattice.proofs.Decide.{in?, missing?, hull?, kept?}
 use Rattle.lattice.proofs.HullLaws.{hull-larger}
 use Rattle.lattice.proofs.SameMembers.{Same, lists-unique, lists-same}
 use Rattle.lattice.proofs.RowLists.{lists-exist, lists-split, row-order-exists, row-order-length}
 
+-- every list of points has a missing list; so can be listed the lattice points of its hull, and what Rebuild keeps
 pub missing-list-exists : (s : List Point) → (m : List Point) × MissingList s m
 missing-list-exists s = lists-exist (Missing s) (missing? s) s (λ p h. h .within)
 
@@ -39,6 +42,13 @@ none-listed P (a ∷ m) h f = absurd (f a (h .only a (inl refl)))
 
 pub convex-exactly : (s m : List Point) → MissingList s m → Convex s ↔ (m ≡ [])
 convex-exactly s m h = (none-listed (Missing s) m h, (λ e p k. subst (In p) e (h .every p k)))
+
+-- ---- the first missing point: missing, and no missing point is before it
+pub first-missing : (s m : List Point) (p : Point) → MissingList s m → Missing s p
+    → ((q : Point) → Missing s q → Before q p → ⊥) → firstOf m ≡ p
+first-missing s [] p h k f = absurd (h .every p k)
+first-missing s (a ∷ m) p h k f =
+    either (h .every p k) (λ e. sym e) (λ i. absurd (f a (h .only a (inl refl)) (all-in (Before a) m (h .order .0) p i)))
 
 -- ---- how many are missing
 pub missing-count : (s h o m : List Point) → Lists (InHull (Of s)) h → Lists (Of s) o → MissingList s m → length h ≡ length o + length m

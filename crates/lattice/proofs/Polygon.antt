@@ -32,15 +32,15 @@ use Rattle.whole.proofs.Whole.{
 use Rattle.lattice.specs.Point.{Point, point, In, Triples, Before}
 use Rattle.lattice.specs.Hull.{turn, OnSegment, InHull, member, segment, triangle, Of}
 use Rattle.lattice.proofs.Turn.{coordinates, Left, turn-cyclic, turn-back, start-on-edge, end-on-edge}
-use Rattle.lattice.proofs.Lists.{either}
+use Rattle.lattice.proofs.Lists.{either, all-in}
 use Rattle.lattice.proofs.Places.{lt-or-le, place-in, in-place, triples-place}
 use Rattle.lattice.proofs.HalfPlane.{product-between, edge-half-plane}
 use Rattle.lattice.proofs.Decide.{Decided, negated, yes-or-no, Some, some?, before?}
 use Rattle.lattice.proofs.RowOrder.{before-irreflexive, before-transitive, before-total, before-not-before, not-before-before}
-use Rattle.lattice.proofs.RowKey.{along, Orders, list-order, hull-after, hull-before}
+use Rattle.lattice.proofs.RowKey.{keyBy, Orders, list-order, hull-after, hull-before}
 use Rattle.lattice.proofs.Shape.{Shape}
 
--- p is on the left of each edge or on it, the one from the last corner to the first included; not all corners are after p, and not all before
+-- p is on the left of each edge or on it, also of that from the last corner to the first; not all corners are after p, and not all before
 pub record Inside (c : List Point) (p : Point) : Type 0 where
   pub edges : (i : ℕ) → suc i < length c → NonNegative (turn (point c i) (point c (suc i)) p)
   pub closing : (i : ℕ) → suc i ≡ length c → NonNegative (turn (point c i) (point c 0) p)
@@ -124,10 +124,10 @@ pub on-segment-in-order : (a b p : Point) → Before a b → turn a b p ≡ pos 
 on-segment-in-order a b p h z f g = record {
   straight = z;
   x-between = product-between (a .x) (b .x) (p .x)
-      (linear≤ ρ (squeeze (along K b -ℤ along K a) (along K p -ℤ along K a) (b .x -ℤ a .x) (p .x -ℤ a .x)
+      (linear≤ ρ (squeeze (keyBy K b -ℤ keyBy K a) (keyBy K p -ℤ keyBy K a) (b .x -ℤ a .x) (p .x -ℤ a .x)
       (linear≡ ρ (negℤ K ∗≡ z) (search quote depth 20) tt) whole low high) (search quote depth 20) tt);
   y-between = product-between (a .y) (b .y) (p .y)
-      (linear≤ ρ (squeeze (along K b -ℤ along K a) (along K p -ℤ along K a) (b .y -ℤ a .y) (p .y -ℤ a .y)
+      (linear≤ ρ (squeeze (keyBy K b -ℤ keyBy K a) (keyBy K p -ℤ keyBy K a) (b .y -ℤ a .y) (p .y -ℤ a .y)
       (linear≡ ρ (pos 1 ∗≡ z) (search quote depth 20) tt) whole low high) (search quote depth 20) tt);
 }
   where
@@ -140,16 +140,16 @@ on-segment-in-order a b p h z f g = record {
     ρ : List ℤ
     ρ = K ∷ coordinates (a ∷ b ∷ p ∷ [])
 
-    whole : Positive (along K b -ℤ along K a)
+    whole : Positive (keyBy K b -ℤ keyBy K a)
     whole = linear< (K ∷ coordinates (a ∷ b ∷ [])) (gap< (order .rises a b (inl refl) (inr (inl refl)) h)) (search quote depth 20) tt
 
-    not-less : (u v : Point) → In u (a ∷ b ∷ p ∷ []) → In v (a ∷ b ∷ p ∷ []) → (Before u v → ⊥) → along K v ≤ᶻ along K u
-    not-less u v i j n = either (le-or-lt (along K v) (along K u)) (λ k. k) (λ k. absurd (n (order .follows u v i j k)))
+    not-less : (u v : Point) → In u (a ∷ b ∷ p ∷ []) → In v (a ∷ b ∷ p ∷ []) → (Before u v → ⊥) → keyBy K v ≤ᶻ keyBy K u
+    not-less u v i j n = either (le-or-lt (keyBy K v) (keyBy K u)) (λ k. k) (λ k. absurd (n (order .follows u v i j k)))
 
-    low : NonNegative (along K p -ℤ along K a)
+    low : NonNegative (keyBy K p -ℤ keyBy K a)
     low = gap≤ (not-less p a (inr (inr (inl refl))) (inl refl) f)
 
-    high : NonNegative (along K b -ℤ along K a -ℤ (along K p -ℤ along K a))
+    high : NonNegative (keyBy K b -ℤ keyBy K a -ℤ (keyBy K p -ℤ keyBy K a))
     high =
         linear≤ (K ∷ coordinates (a ∷ b ∷ p ∷ [])) (gap≤ (not-less b p (inr (inl refl)) (inr (inr (inl refl))) g))
         (search quote depth 20) tt
@@ -209,6 +209,33 @@ inside-hull (a ∷ b ∷ []) s p h =
     above m (inr i) k = subst (λ z. Before z p) (sym (the-one b m i)) k
 inside-hull (a ∷ b ∷ d ∷ l) s p h = fan (a ∷ b ∷ d ∷ l) s p h (length l) zero (omega arith) (h .edges zero (omega arith))
 
--- in the hull of a list of the shape exactly if inside
+-- the theorem: a point is in the hull of a list of the shape exactly if it is inside
 pub polygon : (c : List Point) → Shape c → (p : Point) → InHull (Of c) p ↔ Inside c p
 polygon c s p = (hull-inside c (Of c) (corner-inside c s) p, inside-hull c s p)
+
+-- the same by the first and the last corner in row order
+pub record InsideEnds (c : List Point) (t p : Point) : Type 0 where
+  pub edges : (i : ℕ) → suc i < length c → NonNegative (turn (point c i) (point c (suc i)) p)
+  pub closing : (i : ℕ) → suc i ≡ length c → NonNegative (turn (point c i) (point c 0) p)
+  pub from-first : Before p (point c 0) → ⊥
+  pub to-last : Before t p → ⊥
+
+pub polygon-by-ends : (c : List Point) → Shape c → (t : Point) → In t c → ((q : Point) → In q c → Before t q → ⊥)
+    → (p : Point) → InHull (Of c) p ↔ InsideEnds c t p
+polygon-by-ends [] s t m last p = absurd m
+polygon-by-ends (a ∷ l) s t m last p = (λ h. to (polygon (a ∷ l) s p .0 h), λ h. polygon (a ∷ l) s p .1 (from h))
+  where
+    first : (q : Point) → In q (a ∷ l) → Before p a → Before p q
+    first q (inl e) k = subst (Before p) (sym e) k
+    first q (inr i) k = before-transitive p a q k (all-in (Before a) l (s .start) q i)
+
+    to : Inside (a ∷ l) p → InsideEnds (a ∷ l) t p
+    to h = record {
+      edges = h .edges;
+      closing = h .closing;
+      from-first = λ k. h .from .2 (first (h .from .0) (h .from .1) k);
+      to-last = λ k. h .to .2 (not-before-before p t (h .to .0) k (last (h .to .0) (h .to .1)));
+    }
+
+    from : InsideEnds (a ∷ l) t p → Inside (a ∷ l) p
+    from h = record { edges = h .edges; closing = h .closing; from = (a, inl refl, h .from-first); to = (t, m, h .to-last) }

@@ -3,6 +3,7 @@
 use mathlib.Core.Path.{_≡_, refl, sym}
 use mathlib.Core.Logic.{inl, inr}
 use mathlib.Core.List.{List, [], _∷_}
+use Prim.Native.Nat.{ℕ}
 use lib.IntN.{ℤ, pos, negsuc, negℤ, _+ℤ_, _-ℤ_}
 use Rattle.whole.proofs.Whole.{
   quote,
@@ -36,48 +37,48 @@ use Rattle.lattice.proofs.HullLaws.{hull-of-few}
 use Rattle.lattice.proofs.RowOrder.{before-total}
 use Rattle.lattice.proofs.Reach.{reach, reaches}
 
--- x + K y
-abbrev pub along : ℤ → Point → ℤ
-along K p = linear (pos 1) K p
+-- a key with K columns to a row: x + K y
+abbrev pub keyBy : ℤ → Point → ℤ
+keyBy K p = linear (pos 1) K p
 
 -- x + K y orders the points of S by rows
 pub record Orders (K : ℤ) (S : Point → Type 0) : Type 0 where
-  pub rises : (a b : Point) → S a → S b → Before a b → along K a <ᶻ along K b
-  pub follows : (a b : Point) → S a → S b → along K a <ᶻ along K b → Before a b
+  pub rises : (a b : Point) → S a → S b → Before a b → keyBy K a <ᶻ keyBy K b
+  pub follows : (a b : Point) → S a → S b → keyBy K a <ᶻ keyBy K b → Before a b
 
--- ---- columns from lo to hi
-pub record Columns (lo hi : ℤ) (p : Point) : Type 0 where
-  pub from : lo ≤ᶻ p .x
-  pub to : p .x ≤ᶻ hi
+-- ---- columns from low to high
+pub record Columns (low high : ℤ) (p : Point) : Type 0 where
+  pub from : low ≤ᶻ p .x
+  pub to : p .x ≤ᶻ high
 
 abbrev pub width : ℤ → ℤ → ℤ
-width lo hi = pos 1 +ℤ (hi -ℤ lo)
+width low high = pos 1 +ℤ (high -ℤ low)
 
-module _ (lo hi : ℤ) (a b : Point) (ha : Columns lo hi a) (hb : Columns lo hi b) where
-  wide : NonNegative (width lo hi)
-  wide = linear≤ (lo ∷ hi ∷ a .x ∷ []) (gap≤ (ha .from) ⊞ gap≤ (ha .to)) (search quote depth 20) tt
+module _ (low high : ℤ) (a b : Point) (ha : Columns low high a) (hb : Columns low high b) where
+  wide : NonNegative (width low high)
+  wide = linear≤ (low ∷ high ∷ a .x ∷ []) (gap≤ (ha .from) ⊞ gap≤ (ha .to)) (search quote depth 20) tt
 
-  rows-rise : Before a b → along (width lo hi) a <ᶻ along (width lo hi) b
+  rows-rise : Before a b → keyBy (width low high) a <ᶻ keyBy (width low high) b
   rows-rise (row h) =
-      linear< (lo ∷ hi ∷ coordinates (a ∷ b ∷ [])) (wide ⊠ gap< h ⊞ gap≤ (ha .to) ⊞ gap≤ (hb .from)) (search quote depth 20) tt
-  rows-rise (column e h) = linear< (lo ∷ hi ∷ coordinates (a ∷ b ∷ [])) (width lo hi ⋆≡ e ⊞ gap< h) (search quote depth 20) tt
+      linear< (low ∷ high ∷ coordinates (a ∷ b ∷ [])) (wide ⊠ gap< h ⊞ gap≤ (ha .to) ⊞ gap≤ (hb .from)) (search quote depth 20) tt
+  rows-rise (column e h) = linear< (low ∷ high ∷ coordinates (a ∷ b ∷ [])) (width low high ⋆≡ e ⊞ gap< h) (search quote depth 20) tt
 
-  rows-follow : along (width lo hi) a <ᶻ along (width lo hi) b → Before a b
+  rows-follow : keyBy (width low high) a <ᶻ keyBy (width low high) b → Before a b
   rows-follow h = by-row (sign (b .y -ℤ a .y))
     where
       by-row : Sign (b .y -ℤ a .y) → Before a b
       by-row (below l) =
-          linear⊥ (lo ∷ hi ∷ coordinates (a ∷ b ∷ [])) (gap< h ⊞ wide ⊠ gap< l ⊞ gap≤ (hb .to) ⊞ gap≤ (ha .from))
+          linear⊥ (low ∷ high ∷ coordinates (a ∷ b ∷ [])) (gap< h ⊞ wide ⊠ gap< l ⊞ gap≤ (hb .to) ⊞ gap≤ (ha .from))
           (search quote depth 20) tt
       by-row (nought e) =
           column (sym (difference-zero e))
-          (linear< (lo ∷ hi ∷ coordinates (a ∷ b ∷ [])) (gap< h ⊞ negℤ (width lo hi) ⋆≡ sym e) (search quote depth 20) tt)
+          (linear< (low ∷ high ∷ coordinates (a ∷ b ∷ [])) (gap< h ⊞ negℤ (width low high) ⋆≡ sym e) (search quote depth 20) tt)
       by-row (above l) = row (linear< (coordinates (a ∷ b ∷ [])) (gap< l) (search quote depth 20) tt)
 
-columns-order : (lo hi : ℤ) (S : Point → Type 0) → ((q : Point) → S q → Columns lo hi q) → Orders (width lo hi) S
-columns-order lo hi S f = record {
-  rises = λ a b i j. rows-rise lo hi a b (f a i) (f b j);
-  follows = λ a b i j. rows-follow lo hi a b (f a i) (f b j);
+columns-order : (low high : ℤ) (S : Point → Type 0) → ((q : Point) → S q → Columns low high q) → Orders (width low high) S
+columns-order low high S f = record {
+  rises = λ a b i j. rows-rise low high a b (f a i) (f b j);
+  follows = λ a b i j. rows-follow low high a b (f a i) (f b j);
 }
 
 -- every list has such a K
@@ -89,10 +90,15 @@ list-order s =
     )
 
 -- ---- the key of a point in range
-abbrev pub key : Point → ℤ
-key p = along (pos 16384) p
+-- the number of columns of the range
+abbrev pub rangeWidth : ℕ
+rangeWidth = 16384
 
-pub range-order : Orders (pos 16384) InRange
+abbrev pub key : Point → ℤ
+key p = keyBy (pos rangeWidth) p
+
+-- row order is the order of the keys
+pub range-order : Orders (pos rangeWidth) InRange
 range-order = columns-order least greatest InRange (λ q r. record { from = r .x-from; to = r .x-to })
 
 module _ (a b : Point) (ra : InRange a) (rb : InRange b) where
@@ -110,6 +116,7 @@ key-not-before a b ra rb h g =
 pub not-before-key : (a b : Point) → InRange a → InRange b → (Before a b → ⊥) → key b ≤ᶻ key a
 not-before-key a b ra rb n = either (le-or-lt (key b) (key a)) (λ h. h) (λ h. absurd (n (key-before a b ra rb h)))
 
+-- points in range are told apart by their keys
 pub key-injective : (a b : Point) → InRange a → InRange b → key a ≡ key b → a ≡ b
 key-injective a b ra rb e = either (before-total a b) (λ h. clash (before-key a b ra rb h) e)
     (λ r. either r (λ x. x) (λ h. clash (before-key b a rb ra h) (sym e)))
@@ -118,10 +125,10 @@ key-injective a b ra rb e = either (before-total a b) (λ h. clash (before-key a
     clash {u} {v} h e = linear⊥ (u ∷ v ∷ []) (gap< h ⊞ pos 1 ⋆≡ sym e) (search quote depth 20) tt
 
 -- ---- the same order the other way round
-pub opposite : (K : ℤ) (a b : Point) → along K a <ᶻ along K b → linear (negsuc 0) (negℤ K) b <ᶻ linear (negsuc 0) (negℤ K) a
+pub opposite : (K : ℤ) (a b : Point) → keyBy K a <ᶻ keyBy K b → linear (negsuc 0) (negℤ K) b <ᶻ linear (negsuc 0) (negℤ K) a
 opposite K a b h = linear< (K ∷ coordinates (a ∷ b ∷ [])) (gap< h) (search quote depth 20) tt
 
-pub opposite-back : (K : ℤ) (a b : Point) → linear (negsuc 0) (negℤ K) b <ᶻ linear (negsuc 0) (negℤ K) a → along K a <ᶻ along K b
+pub opposite-back : (K : ℤ) (a b : Point) → linear (negsuc 0) (negℤ K) b <ᶻ linear (negsuc 0) (negℤ K) a → keyBy K a <ᶻ keyBy K b
 opposite-back K a b h = linear< (K ∷ coordinates (a ∷ b ∷ [])) (gap< h) (search quote depth 20) tt
 
 -- ---- row order and turns: about o, among points after o, the turn order is transitive
@@ -136,7 +143,7 @@ turn-transitive o a b c ha hb hc h g =
     K : ℤ
     K = list-order four .0
 
-    up : (q : Point) → Before o q → In q (o ∷ a ∷ b ∷ c ∷ []) → Positive (along K q -ℤ along K o)
+    up : (q : Point) → Before o q → In q (o ∷ a ∷ b ∷ c ∷ []) → Positive (keyBy K q -ℤ keyBy K o)
     up q k m =
         linear< (K ∷ coordinates (o ∷ q ∷ [])) (gap< (list-order four .1 .rises o q (inl refl) m k)) (search quote depth 20) tt
 

@@ -41,6 +41,7 @@ module _ (R : Point → Point → Type 0) (asymmetric : (a b : Point) → R a b 
       λ i. x i ∷ y i
 
 -- ---- a list of the points with P, in row order
+-- the points with P in row order are one list
 pub lists-unique : (P : Point → Type 0) (l m : List Point) → Lists P l → Lists P m → l ≡ m
 lists-unique P l m h g =
     ordered-unique Before before-asymmetric l m (h .order) (g .order)
@@ -54,6 +55,7 @@ lists-same P Q f g l h = record { every = λ p m. h .every p (g p m); only = λ 
 turns-asymmetric : (o a b : Point) → Left o a b → Left o b a → ⊥
 turns-asymmetric o a b h g = linear⊥ (coordinates (o ∷ a ∷ b ∷ [])) (gap< h ⊞ gap< g) (search quote depth 20) tt
 
+-- the members of a list of the shape tell the list
 pub shape-unique : (c d : List Point) → Shape c → Shape d → Same c d → c ≡ d
 shape-unique [] [] h g f = refl
 shape-unique [] (b ∷ m) h g f = absurd (f .1 b (inl refl))

@@ -39,6 +39,7 @@ use Rattle.lattice.proofs.RowKey.{hull-after, hull-before}
 use Rattle.lattice.proofs.Shape.{Shape}
 use Rattle.lattice.proofs.Polygon.{Inside, hull-inside, polygon}
 
+-- c has the shape, its points are of s, and s is in its hull
 pub record Spans (s c : List Point) : Type 0 where
   pub shape : Shape c
   pub inside : (q : Point) → In q c → In q s
@@ -92,7 +93,7 @@ module _ (s : List Point) (a : Point) (m : In a s) where
           (difference-zero (zero-factor {a = turn u a v} {b = q .y -ℤ a .y}
           (linear≡ ρ ((v .y -ℤ a .y) ∗≡ e .0 ∔ (u .y -ℤ a .y) ∗≡ e .1) (search quote depth 20) tt) o))
 
--- ---- the hull of s is the hull of c
+-- ---- the hull of s is the hull of c: the first half of the sandwich
 pub hull-of-spanned : (s c : List Point) → Spans s c → (p : Point) → InHull (Of s) p ↔ InHull (Of c) p
 hull-of-spanned s c h p = (
   (λ i. polygon c (h .shape) p .1 (hull-inside c (Of s) (λ q m. polygon c (h .shape) q .0 (h .cover q m)) p i)),
@@ -169,7 +170,7 @@ shape-once (a ∷ l) h = (
       (λ u v i j k e. linear⊥ (coordinates (a ∷ v ∷ [])) (gap< (subst (λ z. Left a z v) e k)) (search quote depth 20) tt) (h .three .0),
 )
 
--- the sandwich: c is the corner list of s
+-- the second half: c is the corner list of s
 pub corner-list-of-spanned : (s c : List Point) → Spans s c → CornerList s c
 corner-list-of-spanned s c h = record {
   every = λ p k. either (yes-or-no (in? p c)) (λ i. i)

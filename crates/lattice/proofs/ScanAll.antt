@@ -10,7 +10,7 @@ use Rattle.lattice.specs.Point.{Point, In, All, Pairs, Before}
 use Rattle.lattice.specs.Hull.{turn, Of}
 use Rattle.lattice.proofs.Turn.{coordinates}
 use Rattle.lattice.proofs.Lists.{either, pairs-map, Chain, pairs-chain}
-use Rattle.lattice.proofs.RowKey.{along, Orders, list-order, opposite, opposite-back}
+use Rattle.lattice.proofs.RowKey.{keyBy, Orders, list-order, opposite, opposite-back}
 use Rattle.lattice.proofs.Sandwich.{Spans, spans-itself}
 use Rattle.lattice.proofs.Scan.{
   bottom,
@@ -139,7 +139,7 @@ module _ (K : ℤ) (s : List Point) (order : Orders K (Of s)) (f g : ℕ → Poi
           (f (suc m)) (stack f (suc m)) (g (suc k)) (stack g (suc k)) up down
 
   -- two points at least
-  both-scans : (a b : Point) → In a s → In b s → along K a <ᶻ along K b → (n j : ℕ)
+  both-scans : (a b : Point) → In a s → In b s → keyBy K a <ᶻ keyBy K b → (n j : ℕ)
       → Upward K (Of s) (f n) (stack f n) → Downward K (Of s) (g j) (stack g j) → (c : List Point) × Spans s c
   both-scans a b ia ib h zero j up down = absurd (one-passed (pos 1) K (Of s) (f zero) a b up ia ib h)
   both-scans a b ia ib h (suc m) zero up down =
@@ -161,10 +161,10 @@ spans-in-order (a ∷ b ∷ l) h =
     order : Orders K (Of (a ∷ b ∷ l))
     order = list-order (a ∷ b ∷ l) .1
 
-    rising : Chain (λ u v. along K u <ᶻ along K v) (a ∷ b ∷ l)
+    rising : Chain (λ u v. keyBy K u <ᶻ keyBy K v) (a ∷ b ∷ l)
     rising =
-        pairs-chain (λ u v. along K u <ᶻ along K v) (a ∷ b ∷ l)
-        (pairs-map Before (λ u v. along K u <ᶻ along K v) (a ∷ b ∷ l) (λ u v i j. order .rises u v i j) h)
+        pairs-chain (λ u v. keyBy K u <ᶻ keyBy K v) (a ∷ b ∷ l)
+        (pairs-map Before (λ u v. keyBy K u <ᶻ keyBy K v) (a ∷ b ∷ l) (λ u v i j. order .rises u v i j) h)
 
     falling : Chain (Over (negsuc 0) (negℤ K)) (a ∷ b ∷ l)
     falling =
@@ -180,6 +180,7 @@ spans-in-order (a ∷ b ∷ l) h =
     down : Run (negsuc 0) (negℤ K) (Of (a ∷ b ∷ l)) a
     down = run-from-end (negsuc 0) (negℤ K) a (b ∷ l) falling
 
+-- every list of points is spanned by a list of a corner list's shape
 pub spans-exist : (s : List Point) → (c : List Point) × Spans s c
 spans-exist s =
     let o = row-order-exists s in

@@ -20,13 +20,15 @@ use Rattle.whole.proofs.Whole.{
   le-or-lt,
   antisymmetric,
 }
-use Rattle.lattice.specs.Point.{Point, origin, Lists}
+use Rattle.lattice.specs.Point.{Point, origin, In, Before, Lists}
 use Rattle.lattice.specs.Hull.{turn, InHull, member, segment, triangle, Of, StartsFirst, CornerList, Missing, Convex}
 use Rattle.lattice.specs.Grains.{at}
 use Rattle.lattice.proofs.Turn.{coordinates, Left, start-on-edge, end-on-edge}
 use Rattle.lattice.proofs.Lists.{all-in, Bends}
 use Rattle.lattice.proofs.HalfPlane.{point-equal, half-plane, edge-half-plane}
 use Rattle.lattice.proofs.Decide.{triples?, lt?, startsFirst?, missing?}
+use Rattle.lattice.proofs.Polygon.{polygon-by-ends}
+use Rattle.lattice.proofs.CornerLists.{corner-list-shape, hull-of-corners}
 
 -- ---- turns of neighbours alone make no corner list: the star starts with its first point in row order and turns left all the way round
 abbrev pub star : List Point
@@ -109,6 +111,12 @@ pick-miscounts-nothing = (refl, record { every = none; only = λ p m. absurd m; 
     none p (triangle a b c u v w i) = u
 
 -- ---- the search must not end before the last row or the last column
+-- the last corner in row order is in the hull, and nothing of the hull is later
+pub last-corner-counts : (s c : List Point) (t : Point) → CornerList s c → In t c → ((q : Point) → In q c → Before t q → ⊥)
+    → InHull (Of s) t × ((p : Point) → InHull (Of s) p → Before t p → ⊥)
+last-corner-counts s c t h m last =
+    (member (h .only t m .held), λ p i. polygon-by-ends c (corner-list-shape s c h) t m last p .0 (hull-of-corners s c h p .0 i) .to-last)
+
 pub missing-in-last-row : Missing (at 1 0 ∷ at 0 1 ∷ at 2 1 ∷ []) (at 1 1)
 missing-in-last-row = missing? (at 1 0 ∷ at 0 1 ∷ at 2 1 ∷ []) (at 1 1) .sound tt
 

@@ -37,8 +37,8 @@ passed-before (k when P else t) later m i n j (inl h) g = absurd (never k (h .0)
 passed-before (k when P else t) later m i n j (inr h) g = inr (h .0, passed-before t later (m .1) i n j (h .1) g)
 
 -- ---- a row for the call as a whole
-pub whole-here : (k : ℕ) (P : Type 0) (later : Table) → P → Gives (k when Whole P else later) k 0
-whole-here k P later p = inl (refl, record { here = (refl, p); earlier = λ j h _. nowhere j h })
+pub whole-first : {P : Type 0} → P → First (Whole P) 0
+whole-first p = record { here = (refl, p); earlier = λ j h _. nowhere j h }
 
-pub whole-not : (k : ℕ) (P : Type 0) (later : Table) (n i : ℕ) → (P → ⊥) → Gives later n i → Gives (k when Whole P else later) n i
-whole-not k P later n i no-fault g = inr ((λ j h. no-fault (h .1)), g)
+pub whole-never : {P : Type 0} → (P → ⊥) → (j : ℕ) → Whole P j → ⊥
+whole-never no-fault j h = no-fault (h .1)

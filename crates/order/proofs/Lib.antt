@@ -5,3 +5,7 @@ pub mod InOrder
 pub mod Reading
 pub mod RowLaws
 pub mod Pinned
+pub mod KeyLaws
+pub mod Sorting
+pub mod Filling
+pub mod Finding
