@@ -2,6 +2,7 @@
 // program is compared over: one request a line, one answer a line. What is no request ends the run with a line of its
 // own, so that a comparison stops there.
 mod asked;
+mod octets;
 mod parts;
 mod reading;
 mod rows;
