@@ -6,6 +6,9 @@ use crate::reading::Source;
 use crate::writing;
 use crate::writing::Sink;
 
+// The largest signed 32-bit number.
+const LARGEST: i32 = 2147483647;
+
 // A list that stands in the first `count` numbers of an array.
 pub struct Listed {
     pub count: usize,
@@ -75,7 +78,7 @@ pub fn read_list(input: &mut [u8], source: Source, array: &mut [i32]) -> Listed 
 
 // The number after a number; the largest stays.
 fn next(value: i32) -> i32 {
-    if value == 2147483647 {
+    if value == LARGEST {
         return value;
     }
     value + 1
@@ -88,7 +91,7 @@ fn fill(part: &mut [i32], first: i32) -> usize {
     while i < part.len() {
         part[i] = value;
         i += 1;
-        if value == 2147483647 {
+        if value == LARGEST {
             return i;
         }
         value = next(value);

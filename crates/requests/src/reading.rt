@@ -21,6 +21,8 @@ const NINE: u8 = 57;
 // No number of a request has more digits than 2,147,483,648, the largest magnitude of a signed 32-bit number.
 const MOST_DIGITS: u32 = 10;
 
+const MOST_OF_DIGITS: u64 = 9999999999;
+
 const MOST_POSITIVE: u64 = 2147483647;
 
 // The bytes of the buffer that are still to come are those from `at` to `fill`. `last` is the byte that ended the last
@@ -94,7 +96,7 @@ pub fn is_whole(source: Source) -> bool {
     source.sound && source.last == LINE_END
 }
 
-// A source after its last byte was read at `at - 1`.
+// The source with its place moved: the byte before `at` was read.
 fn after(source: Source, at: usize, fill: usize) -> Source {
     Source {
         at,
@@ -145,7 +147,7 @@ fn is_digit(value: u8) -> bool {
 
 // A digit behind a magnitude. What is too large for a request already stays as it is.
 fn with_digit(magnitude: u64, digit: u8) -> u64 {
-    if magnitude > 9999999999 {
+    if magnitude > MOST_OF_DIGITS {
         return magnitude;
     }
     if digit < ZERO {
