@@ -9,3 +9,4 @@ pub mod KeyLaws
 pub mod Sorting
 pub mod Filling
 pub mod Finding
+pub mod Ordering
