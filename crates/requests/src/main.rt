@@ -3,6 +3,7 @@
 // own, so that a comparison stops there.
 mod asked;
 mod octets;
+mod ordering;
 mod parts;
 mod reading;
 mod rows;
@@ -31,6 +32,7 @@ fn answered(
     sink: Sink,
 ) -> State {
     match call {
+        1 => ordering::order(input, output, list, ordered, source, sink),
         5 => rows::row_ends(input, output, list, source, sink),
         6 => rows::row(input, output, list, source, sink),
         _ => state::bad(source, sink),
