@@ -20,9 +20,9 @@ use Rattle.packed.specs.Packed.{cells, unpacked}
 use Rattle.packed.proofs.RowOrder.{unpacked-injective, unpacked-in-range}
 use Rattle.order.specs.Keys.{Below}
 use Rattle.order.proofs.KeyLaws.{in-unpacked}
-use Rattle.hull.specs.Scanning.{at, Pushable, Pushed, EndsRow, StartsRow, Rising, Scannable, Climbed, Cornered}
+use Rattle.hull.specs.Scanning.{at, Pushable, Pushed, EndsRow, StartsRow, RowTo, RowFrom, firstOf, lastOf, Rising, Climbed, Cornered}
 use Rattle.hull.proofs.Ways.{Standing, standing-start, standing-same, standing-pushable, standing-pushed, standing-top, standing-all}
-use Rattle.hull.proofs.Rows.{up, down, up-over}
+use Rattle.hull.proofs.Rows.{rowAt, part, part-length, part-first, part-last, up, down, up-over}
 
 -- ---- up
 -- pushed before place i: the first point, and the last points of rows
@@ -48,37 +48,51 @@ climbing-start keys stack h n e = record {
       (UpTo keys 1) (λ j d. (omega (arith, d), inl d)) (λ j l u. omega (arith, u .0));
 }
 
-module _ (keys stack : List ℕ) (top i : ℕ) (rising : Rising keys) (h : Climbing keys stack top i) (l : i < length keys) where
-  pub climbing-pushable : length keys ≤ length stack → Pushable stack 0 top (getD keys i 0)
-  climbing-pushable room =
-      standing-pushable keys (pos 1) (pos rangeWidth) (UpTo keys i) stack 0 top (h .standing) (getD keys i 0) (omega (arith, h .few)) (rising .below i l)
+module _ (keys stack : List ℕ) (top i : ℕ) (rising : Rising keys) (h : Climbing keys stack top i) (e : ℕ) (row : RowTo keys i (suc e)) where
+  up-pushable : length keys ≤ length stack → Pushable stack 0 top (getD keys e 0)
+  up-pushable room =
+      standing-pushable keys (pos 1) (pos rangeWidth) (UpTo keys i) stack 0 top (h .standing) (getD keys e 0)
+      (omega (arith, h .few, row .some, row .upto)) (rising .below e (row .upto))
 
-  pub climbing-push : EndsRow keys i → (after : List ℕ) (r : ℕ) → Pushed stack 0 top (getD keys i 0) after r → Climbing keys after r (i + 1)
-  climbing-push end after r p = record {
+  up-pushed : (after : List ℕ) (r : ℕ) → Pushed stack 0 top (getD keys e 0) after r → Climbing keys after r (suc e)
+  up-pushed after r p = record {
     some = omega arith;
-    upto = omega arith;
-    few = omega (arith, h .few, p .result, p .under);
+    upto = row .upto;
+    few = omega (arith, h .few, p .result, p .under, row .some);
     starts = ap unpacked (p .kept 0 (omega arith)) ∙ h .starts;
-    standing = standing-same keys (pos 1) (pos rangeWidth) (λ j. (j ≡ i) ⊎ UpTo keys i j) after 0 r
-        (standing-pushed keys (pos 1) (pos rangeWidth) (UpTo keys i) stack 0 top (h .standing) i l (rising .below i l)
-        (λ j n u. up-over keys rising i j l n (u .0)) after r p)
-        (UpTo keys (i + 1))
-        (λ j m. either m (λ e. (omega (arith, e), inr (subst (EndsRow keys) (sym e) end))) (λ u. (omega (arith, u .0), u .1)))
-        (λ j n u. either (lt-or-le j i) (λ v. inr (v, u .1)) (λ v. inl (omega (arith, v, u .0))));
+    standing = standing-same keys (pos 1) (pos rangeWidth) (λ j. (j ≡ e) ⊎ UpTo keys i j) after 0 r
+        (standing-pushed keys (pos 1) (pos rangeWidth) (UpTo keys i) stack 0 top (h .standing) e (row .upto) (rising .below e (row .upto))
+        (λ j n u. up-over keys rising e j (row .upto) n (omega (arith, u .0, row .some))) after r p)
+        (UpTo keys (suc e))
+        (λ j m. either m (λ q. (omega (arith, q), inr (subst (EndsRow keys) (sym q) (row .ends e refl)))) (λ u. (omega (arith, u .0, row .some), u .1)))
+        (λ j n u. either (lt-or-le j i) (λ v. inr (v, u .1)) (λ v. either (lt-or-le j e) (λ w. absurd (inner j v w (u .1))) (λ w. inl (omega (arith, w, u .0)))));
   }
+    where
+      -- a point of the row behind which another follows is not pushed
+      inner : (j : ℕ) → i ≤ j → j < e → (j ≡ 0) ⊎ EndsRow keys j → ⊥
+      inner j v w u = either u (λ z. omega (arith, z, h .some)) (λ d. d (omega (arith, row .upto)) (row .same j v (omega arith)))
 
-  pub climbing-skip : (EndsRow keys i → ⊥) → Climbing keys stack top (i + 1)
-  climbing-skip inner = record {
-    some = omega arith;
-    upto = omega arith;
-    few = omega (arith, h .few);
-    starts = h .starts;
-    standing = standing-same keys (pos 1) (pos rangeWidth) (UpTo keys i) stack 0 top (h .standing) (UpTo keys (i + 1))
-        (λ j u. (omega (arith, u .0), u .1))
-        (λ j n u. either (lt-or-le j i) (λ v. (v, u .1))
-        (λ v. let e : j ≡ i = omega (arith, v, u .0) in
-        either (u .1) (λ z. absurd (omega (arith, e, z, h .some))) (λ w. absurd (inner (subst (EndsRow keys) e w)))));
-  }
+module _ (keys stack : List ℕ) (top i end : ℕ) (rising : Rising keys) (h : Climbing keys stack top i) (row : RowTo keys i end) where
+  abbrev e : ℕ
+  e = end - 1
+
+  suc-e : suc e ≡ end
+  suc-e = omega (arith, row .some)
+
+  is-last : lastOf (part keys i end) ≡ getD keys e 0
+  is-last = part-last keys i end (row .some) (row .upto) e suc-e
+
+  pub climbing-row : 0 < length (part keys i end)
+  climbing-row = omega (arith, row .some, part-length keys i end (row .some) (row .upto))
+
+  pub climbing-pushable : length keys ≤ length stack → Pushable stack 0 top (lastOf (part keys i end))
+  climbing-pushable room =
+      subst (Pushable stack 0 top) (sym is-last) (up-pushable keys stack top i rising h e (subst (RowTo keys i) (sym suc-e) row) room)
+
+  pub climbing-push : (after : List ℕ) (r : ℕ) → Pushed stack 0 top (lastOf (part keys i end)) after r → Climbing keys after r end
+  climbing-push after r p =
+      subst (Climbing keys after r) suc-e
+      (up-pushed keys stack top i rising h e (subst (RowTo keys i) (sym suc-e) row) after r (subst (λ k. Pushed stack 0 top k after r) is-last p))
 
 -- the first and the last point differ
 apart : (keys : List ℕ) → Rising keys → 1 < length keys → at keys 0 ≡ at keys (length keys - 1) → ⊥
@@ -140,40 +154,45 @@ descending-start keys stack base n c = record {
       (DownTo keys (length keys - 1)) (λ j d. (omega (arith, d), inl d)) (λ j l u. omega (arith, l, u .0)));
 }
 
-module _ (keys stack₀ : List ℕ) (base : ℕ) (stack : List ℕ) (top i : ℕ) (rising : Rising keys) (h : Descending keys stack₀ base stack top i) (l : 0 < i) where
-  pub descending-pushable : base < length keys → 2 * length keys ≤ length stack → Pushable stack base top (getD keys (i - 1) 0)
+module _ (keys stack₀ : List ℕ) (base : ℕ) (stack : List ℕ) (top i : ℕ) (rising : Rising keys) (h : Descending keys stack₀ base stack top i)
+    (b : ℕ) (row : RowFrom keys b i) where
+  is-first : firstOf (part keys b i) ≡ getD keys b 0
+  is-first = part-first keys b i (row .some) (omega (arith, h .upto))
+
+  pub descending-row : 0 < length (part keys b i)
+  descending-row = omega (arith, row .some, part-length keys b i (row .some) (omega (arith, h .upto)))
+
+  pub descending-pushable : base < length keys → 2 * length keys ≤ length stack → Pushable stack base top (firstOf (part keys b i))
   descending-pushable low room =
-      standing-pushable keys (negsuc 0) (negℤ (pos rangeWidth)) (DownTo keys i) stack base top (h .standing) (getD keys (i - 1) 0)
-      (omega (arith, h .few, h .upto)) (rising .below (i - 1) (omega (arith, h .upto)))
+      subst (Pushable stack base top) (sym is-first)
+      (standing-pushable keys (negsuc 0) (negℤ (pos rangeWidth)) (DownTo keys i) stack base top (h .standing) (getD keys b 0)
+      (omega (arith, h .few, h .upto, row .some)) (rising .below b (omega (arith, h .upto, row .some))))
 
-  pub descending-push : StartsRow keys (i - 1) → (after : List ℕ) (r : ℕ) → Pushed stack base top (getD keys (i - 1) 0) after r
-      → Descending keys stack₀ base after r (i - 1)
-  descending-push start after r p = record {
-    upto = omega (arith, h .upto);
-    few = omega (arith, h .few, p .result, p .under);
+  pub descending-push : (after : List ℕ) (r : ℕ) → Pushed stack base top (firstOf (part keys b i)) after r → Descending keys stack₀ base after r b
+  descending-push after r q = record {
+    upto = omega (arith, h .upto, row .some);
+    few = omega (arith, h .few, p .result, p .under, row .some);
     kept = λ j u. p .kept j (omega (arith, u, p .from)) ∙ h .kept j u;
-    standing = standing-same keys (negsuc 0) (negℤ (pos rangeWidth)) (λ j. (j ≡ i - 1) ⊎ DownTo keys i j) after base r
-        (standing-pushed keys (negsuc 0) (negℤ (pos rangeWidth)) (DownTo keys i) stack base top (h .standing) (i - 1) (omega (arith, h .upto))
-        (rising .below (i - 1) (omega (arith, h .upto)))
-        (λ j n u. opposite (pos rangeWidth) (at keys (i - 1)) (at keys j) (up-over keys rising j (i - 1) n (omega (arith, h .upto)) (omega (arith, u .0))))
+    standing = standing-same keys (negsuc 0) (negℤ (pos rangeWidth)) (λ j. (j ≡ b) ⊎ DownTo keys i j) after base r
+        (standing-pushed keys (negsuc 0) (negℤ (pos rangeWidth)) (DownTo keys i) stack base top (h .standing) b (omega (arith, h .upto, row .some))
+        (rising .below b (omega (arith, h .upto, row .some)))
+        (λ j n u. opposite (pos rangeWidth) (at keys b) (at keys j)
+        (up-over keys rising j b n (omega (arith, h .upto, row .some)) (omega (arith, u .0, row .some))))
         after r p)
-        (DownTo keys (i - 1))
-        (λ j m. either m (λ e. (omega (arith, e), inr (subst (StartsRow keys) (sym e) start))) (λ u. (omega (arith, u .0), u .1)))
-        (λ j n u. either (lt-or-le j i) (λ v. inl (omega (arith, v, u .0))) (λ v. inr (v, u .1)));
+        (DownTo keys b)
+        (λ j m. either m (λ e. (omega (arith, e), inr (subst (StartsRow keys) (sym e) (row .starts)))) (λ u. (omega (arith, u .0, row .some), u .1)))
+        (λ j n u. either (lt-or-le j i) (λ v. either (lt-or-le b j) (λ w. absurd (inner j w v (u .1))) (λ w. inl (omega (arith, w, u .0)))) (λ v. inr (v, u .1)));
   }
+    where
+      p : Pushed stack base top (getD keys b 0) after r
+      p = subst (λ k. Pushed stack base top k after r) is-first q
 
-  pub descending-skip : (StartsRow keys (i - 1) → ⊥) → Descending keys stack₀ base stack top (i - 1)
-  descending-skip inner = record {
-    upto = omega (arith, h .upto);
-    few = omega (arith, h .few);
-    kept = h .kept;
-    standing = standing-same keys (negsuc 0) (negℤ (pos rangeWidth)) (DownTo keys i) stack base top (h .standing) (DownTo keys (i - 1))
-        (λ j u. (omega (arith, u .0), u .1))
-        (λ j n u. either (lt-or-le j i)
-        (λ v. let e : j ≡ i - 1 = omega (arith, v, u .0) in
-        either (u .1) (λ z. absurd (omega (arith, e, z, h .upto))) (λ w. absurd (inner (subst (StartsRow keys) e w))))
-        (λ v. (v, u .1)));
-  }
+      -- a point of the row before which another stands is not pushed
+      inner : (j : ℕ) → b < j → j < i → (j ≡ length keys - 1) ⊎ StartsRow keys j → ⊥
+      inner j w v u =
+          let e : suc (j - 1) ≡ j = omega arith in
+          either u (λ z. omega (arith, z, h .upto))
+          (λ d. d (j - 1) e (subst (λ k. rowAt keys (j - 1) ≡ rowAt keys k) e (row .same (j - 1) (omega arith) (omega arith))))
 
 -- ---- both
 front-unpacked : (stack : List ℕ) (r : ℕ) → r ≤ length stack → front (at stack) r ≡ map unpacked (take r stack)

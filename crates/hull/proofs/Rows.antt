@@ -1,13 +1,11 @@
 -- The first and the last points of rows, among packed points that rise. Assumes nothing.
 use mathlib.Core.Path.{_≡_, refl, sym, _∙_, ap, subst}
 use mathlib.Core.Logic.{_⊎_, inl, inr}
-use mathlib.Core.Bool.{Bool, true, false, not}
 use mathlib.Core.List.{List, [], _∷_, map}
 use Prim.Native.Nat.{ℕ, zero, suc, _+_, _-_, _*_, _/_, _%_, _≤_, _<_}
 use native.Mathlib.Omega.{arith}
-use borrow.Author.Tests.{eq-eqb, eqb-true}
-use lib.Dec.{T, eqb}
-use lib.ListN.{length, getD}
+use lib.ListN.{length, getD, take, drop, length-drop}
+use lib.Seq.{length-take-le, getD-take, getD-drop}
 use lib.IntN.{ℤ, pos, negsuc, negℤ, _-ℤ_, _*ℤ_}
 use Rattle.whole.proofs.Whole.{quote, _<ᶻ_, NonNegative, gap<, _⊞_, _⊠_, linear≤}
 use Rattle.lattice.specs.Point.{Point, InRange, Before}
@@ -15,9 +13,9 @@ use Rattle.lattice.proofs.Lists.{either}
 use Rattle.lattice.proofs.Places.{lt-or-le}
 use Rattle.lattice.proofs.RowKey.{rangeWidth, before-key, key-before, opposite, opposite-back}
 use Rattle.lattice.proofs.Scan.{Over}
-use Rattle.packed.specs.Packed.{Tells, side, placed}
+use Rattle.packed.specs.Packed.{side, placed}
 use Rattle.packed.proofs.RowOrder.{unpacked-in-range, before-unpacked, unpacked-before, placed-grows}
-use Rattle.hull.specs.Scanning.{at, Rising, EndsRow, StartsRow}
+use Rattle.hull.specs.Scanning.{at, Rising, EndsRow, StartsRow, RowTo, RowFrom, firstOf, lastOf}
 use Rattle.hull.proofs.Ways.{Way}
 
 -- the row of a place
@@ -109,10 +107,64 @@ module _ (keys : List ℕ) (h : Rising keys) where
       both-down : (a b c d : ℤ) → NonNegative (b -ℤ a) → NonNegative (d -ℤ c) → NonNegative ((a -ℤ b) *ℤ (c -ℤ d))
       both-down a b c d u v = linear≤ (a ∷ b ∷ c ∷ d ∷ []) (u ⊠ v) (search quote depth 20) tt
 
--- ---- what a comparison of rows tells
-pub told-apart : (a b : ℕ) → Tells (not (eqb a b)) (a ≡ b → ⊥)
-told-apart a b = by (eqb a b) refl
-  where
-    by : (t : Bool) → eqb a b ≡ t → Tells (not t) (a ≡ b → ⊥)
-    by true e = λ n. n (eqb-true a b e)
-    by false e = λ q. subst T (sym (eq-eqb a b q) ∙ e) tt
+-- ---- the ends of a row looked for, place by place
+pub record Running (keys : List ℕ) (begin end : ℕ) : Type 0 where
+  pub some : begin < end
+  pub upto : end ≤ length keys
+  pub same : (j : ℕ) → begin ≤ j → suc j < end → rowAt keys j ≡ rowAt keys (suc j)
+
+pub running-one : (keys : List ℕ) (begin end : ℕ) → suc begin ≡ end → end ≤ length keys → Running keys begin end
+running-one keys begin end e l = record { some = omega arith; upto = l; same = λ j u v. absurd (omega arith) }
+
+module _ (keys : List ℕ) (begin end : ℕ) (h : Running keys begin end) where
+  pub running-on : end < length keys → rowAt keys (end - 1) ≡ rowAt keys end → Running keys begin (end + 1)
+  running-on l e = record {
+    some = omega (arith, h .some);
+    upto = omega arith;
+    same = λ j u v. either (lt-or-le (suc j) end) (λ w. h .same j u w)
+        (λ w. let d : j ≡ end - 1 = omega (arith, h .some) in let f : suc j ≡ end = omega arith in
+        ap (rowAt keys) d ∙ e ∙ ap (rowAt keys) (sym f));
+  }
+
+  pub running-back : 0 < begin → rowAt keys (begin - 1) ≡ rowAt keys begin → Running keys (begin - 1) end
+  running-back l e = record {
+    some = omega (arith, h .some);
+    upto = h .upto;
+    same = λ j u v. either (lt-or-le j begin)
+        (λ w. let d : j ≡ begin - 1 = omega arith in let f : suc j ≡ begin = omega arith in
+        ap (rowAt keys) d ∙ e ∙ ap (rowAt keys) (sym f))
+        (λ w. h .same j w v);
+  }
+
+  pub row-to : (end < length keys → rowAt keys (end - 1) ≡ rowAt keys end → ⊥) → RowTo keys begin end
+  row-to n = record {
+    some = h .some;
+    upto = h .upto;
+    same = h .same;
+    ends = λ j e l d. let f : j ≡ end - 1 = omega (arith, e) in
+        n (omega (arith, e, l)) (ap (rowAt keys) (sym f) ∙ d ∙ ap (rowAt keys) e);
+  }
+
+  pub row-from : (0 < begin → rowAt keys (begin - 1) ≡ rowAt keys begin → ⊥) → RowFrom keys begin end
+  row-from n = record {
+    some = h .some;
+    same = h .same;
+    starts = λ j e d. let f : j ≡ begin - 1 = omega (arith, e) in n (omega (arith, e)) (ap (rowAt keys) (sym f) ∙ d);
+  }
+
+-- ---- a part from the middle: its first and its last point
+abbrev pub part : List ℕ → ℕ → ℕ → List ℕ
+part keys begin end = take (end - begin) (drop begin keys)
+
+module _ (keys : List ℕ) (begin end : ℕ) (some : begin < end) (upto : end ≤ length keys) where
+  pub part-length : length (part keys begin end) ≡ end - begin
+  part-length = length-take-le (end - begin) (drop begin keys) (omega (arith, length-drop begin keys))
+
+  part-at : (i j : ℕ) → i < end - begin → begin + i ≡ j → getD (part keys begin end) i 0 ≡ getD keys j 0
+  part-at i j l e = getD-take (end - begin) (drop begin keys) i 0 l ∙ getD-drop begin keys i 0 ∙ ap (λ n. getD keys n 0) e
+
+  pub part-first : firstOf (part keys begin end) ≡ getD keys begin 0
+  part-first = part-at 0 begin (omega arith) (omega arith)
+
+  pub part-last : (e : ℕ) → suc e ≡ end → lastOf (part keys begin end) ≡ getD keys e 0
+  part-last e q = part-at (length (part keys begin end) - 1) e (omega (arith, part-length)) (omega (arith, part-length, q))

@@ -50,6 +50,25 @@ EndsRow keys i = suc i < length keys → getD keys i 0 / side ≡ getD keys (suc
 abbrev pub StartsRow : List ℕ → ℕ → Type 0
 StartsRow keys i = (j : ℕ) → suc j ≡ i → getD keys j 0 / side ≡ getD keys i 0 / side → ⊥
 
+-- the points from begin to below end are in one row; the row ends there; the row begins there
+pub record RowTo (keys : List ℕ) (begin end : ℕ) : Type 0 where
+  pub some : begin < end
+  pub upto : end ≤ length keys
+  pub same : (j : ℕ) → begin ≤ j → suc j < end → getD keys j 0 / side ≡ getD keys (suc j) 0 / side
+  pub ends : (j : ℕ) → suc j ≡ end → EndsRow keys j
+
+pub record RowFrom (keys : List ℕ) (begin end : ℕ) : Type 0 where
+  pub some : begin < end
+  pub same : (j : ℕ) → begin ≤ j → suc j < end → getD keys j 0 / side ≡ getD keys (suc j) 0 / side
+  pub starts : StartsRow keys begin
+
+-- the first, the last of some packed points
+abbrev pub firstOf : List ℕ → ℕ
+firstOf row = getD row 0 0
+
+abbrev pub lastOf : List ℕ → ℕ
+lastOf row = getD row (length row - 1) 0
+
 -- points to be scanned: two or more, and an array with two places for each
 pub record Scannable (keys stack : List ℕ) : Type 0 where
   pub rising : Rising keys

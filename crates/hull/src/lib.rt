@@ -4,9 +4,9 @@ ghost use mathlib.Core.List.{map};
 ghost use Prim.Native.Nat.{_<_, _≤_, _*_};
 ghost use lib.ListN.{length};
 ghost use Rattle.lattice.specs.Room.{holding};
-ghost use Rattle.packed.specs.Packed.{Tells, unpacked};
+ghost use Rattle.packed.specs.Packed.{unpacked};
 ghost use Rattle.order.specs.Keys.{Fits};
-ghost use Rattle.hull.specs.Scanning.{Pushable, Pushed, EndsRow, StartsRow, Rising, Scannable, Climbed, Cornered};
+ghost use Rattle.hull.specs.Scanning.{Pushable, Pushed, RowTo, RowFrom, firstOf, lastOf, Rising, Scannable, Climbed, Cornered};
 ghost use Rattle.hull.specs.Hull.{HullPromise};
 ghost use Rattle.hull.specs.Found.{HullSpace, FindsHull, Shown};
 
@@ -37,25 +37,48 @@ fn push(stack: &mut [u32], base: usize, top: usize, k: u32) -> usize
     last + 2
 }
 
-// Whether the point at a place is the last, the first of its row: only these can be corners.
-fn ends_row(keys: &[u32], i: usize) -> bool
-    requires { ⌜ i < length (now keys) ⌝ }
-    ensures { λ r. ⌜ Tells r (EndsRow (now (keys .entry)) i) ⌝ }
+// The end of the row whose points begin, or go on, at a place; and the begin of the row whose points end there.
+fn row_end(keys: &[u32], begin: usize) -> usize
+    requires { ⌜ begin < length (now keys) ⌝ }
+    ensures { λ r. ⌜ RowTo (now (keys .entry)) begin r ⌝ }
 {
-    if i + 1 < keys.len() {
-        return keys[i] / SIDE != keys[i + 1] / SIDE;
+    let mut end = begin + 1;
+    while end < keys.len() {
+        if keys[end - 1] / SIDE != keys[end] / SIDE {
+            return end;
+        }
+        end += 1;
     }
-    true
+    end
 }
 
-fn starts_row(keys: &[u32], i: usize) -> bool
-    requires { ⌜ i < length (now keys) ⌝ }
-    ensures { λ r. ⌜ Tells r (StartsRow (now (keys .entry)) i) ⌝ }
+fn row_begin(keys: &[u32], end: usize) -> usize
+    requires { ⌜ (0 < end) × (end ≤ length (now keys)) ⌝ }
+    ensures { λ r. ⌜ RowFrom (now (keys .entry)) r end ⌝ }
 {
-    if 0 < i {
-        return keys[i - 1] / SIDE != keys[i] / SIDE;
+    let mut begin = end - 1;
+    while 0 < begin {
+        if keys[begin - 1] / SIDE != keys[begin] / SIDE {
+            return begin;
+        }
+        begin -= 1;
     }
-    true
+    begin
+}
+
+// The last point of a row pushed, the first point of a row pushed: only these can be corners.
+fn push_last(stack: &mut [u32], base: usize, top: usize, row: &[u32]) -> usize
+    requires { ⌜ (0 < length (now row)) × Pushable (now stack) base top (lastOf (now row)) ⌝ }
+    ensures { λ r. ⌜ Pushed (now (stack .entry)) base top (lastOf (now (row .entry))) (now (stack .exit)) r ⌝ }
+{
+    push(stack, base, top, row[row.len() - 1])
+}
+
+fn push_first(stack: &mut [u32], base: usize, top: usize, row: &[u32]) -> usize
+    requires { ⌜ (0 < length (now row)) × Pushable (now stack) base top (firstOf (now row)) ⌝ }
+    ensures { λ r. ⌜ Pushed (now (stack .entry)) base top (firstOf (now (row .entry))) (now (stack .exit)) r ⌝ }
+{
+    push(stack, base, top, row[0])
 }
 
 // The way up: from the first point over the last points of the rows to the last point. Its top place.
@@ -65,14 +88,11 @@ fn climb(keys: &[u32], stack: &mut [u32]) -> usize
 {
     stack[0] = keys[0];
     let mut top: usize = 1;
-    let mut i: usize = 1;
-    while i < keys.len() {
-        if ends_row(keys, i) {
-            top = push(stack, 0, top, keys[i]);
-            i += 1;
-        } else {
-            i += 1;
-        }
+    let mut begin: usize = 1;
+    while begin < keys.len() {
+        let end = row_end(keys, begin);
+        top = push_last(stack, 0, top, &keys[begin..end]);
+        begin = end;
     }
     top - 1
 }
@@ -83,14 +103,11 @@ fn descend(keys: &[u32], stack: &mut [u32], base: usize) -> usize
     ensures { λ r. ⌜ Cornered (now (keys .entry)) (now (stack .exit)) r ⌝ }
 {
     let mut top = base + 1;
-    let mut i = keys.len() - 1;
-    while 0 < i {
-        if starts_row(keys, i - 1) {
-            top = push(stack, base, top, keys[i - 1]);
-            i -= 1;
-        } else {
-            i -= 1;
-        }
+    let mut end = keys.len() - 1;
+    while 0 < end {
+        let begin = row_begin(keys, end);
+        top = push_first(stack, base, top, &keys[begin..end]);
+        end = begin;
     }
     top - 1
 }

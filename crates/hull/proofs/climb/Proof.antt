@@ -1,21 +1,20 @@
--- `hull::climb` meets its contract: a turn of the loop passes one point more. Assumes nothing.
+-- `hull::climb` meets its contract: a turn of the loop passes one row more. Assumes nothing.
 use Prim.Native.Nat.{ℕ, suc, _≤_, _<_, _+_, _-_}
 use mathlib.Core.Path.{_≡_, refl, sym, _∙_, ap, subst}
 use native.Mathlib.Omega.{arith}
 use denote.Ref.{now}
 use lib.ListN.{length, getD, set, length-set}
 use lib.Seq.{getD-set-same}
-use Rattle.hull.specs.Scanning.{EndsRow}
-use Rattle.hull.proofs.Climbing.{Climbing, climbing-start, climbing-pushable, climbing-push, climbing-skip, climbing-end}
-use Rattle.packed.proofs.Tests.{tells-yes, tells-no}
+use Rattle.hull.specs.Scanning.{RowTo}
+use Rattle.hull.proofs.Climbing.{Climbing, climbing-start, climbing-row, climbing-pushable, climbing-push, climbing-end}
 use Rattle.hull.proofs.climb.Statement.{statement}
 use Rattle.hull.proofs.climb.Tie as tie
 
 abbrev Inv-loop : tie.InvT-loop
-Inv-loop keys stack₀ top₀ i₀ stack top i = (length stack ≡ length stack₀) × Climbing keys stack top i
+Inv-loop keys stack₀ top₀ begin₀ stack top begin = (length stack ≡ length stack₀) × Climbing keys stack top begin
 
 abbrev μ-loop : tie.MeasureT-loop
-μ-loop keys stack₀ top₀ i₀ stack top i = length keys - i
+μ-loop keys stack₀ top₀ begin₀ stack top begin = length keys - begin
 
 shared-slice-read-stack : tie.Need-shared-slice-read-stack Inv-loop μ-loop
 shared-slice-read-stack c = omega arith
@@ -31,44 +30,36 @@ loop-holds c = let a = c .before .before .before in
 long : (c : tie.At-loop Inv-loop μ-loop) → length (c .loop .stack) ≡ length (now (c .before .before .before .before .args .stack))
 long c = c .loop .inv .0 ∙ length-set (now (c .before .before .before .before .args .stack)) 0 _
 
-ends-row-requires : tie.Need-ends-row-requires Inv-loop μ-loop
-ends-row-requires c κs = omega arith
+row-end-requires : tie.Need-row-end-requires Inv-loop μ-loop
+row-end-requires c κs = omega arith
 
-mul-push : tie.Need-mul-push Inv-loop μ-loop
-mul-push c = omega arith
+mul-push-last : tie.Need-mul-push-last Inv-loop μ-loop
+mul-push-last c = omega arith
 
-shared-slice-read-push : tie.Need-shared-slice-read-push Inv-loop μ-loop
-shared-slice-read-push c = omega arith
+sub-push-last : tie.Need-sub-push-last Inv-loop μ-loop
+sub-push-last c = omega (arith, c .before .row-end .ensures .some)
 
-push-requires : tie.Need-push-requires Inv-loop μ-loop
-push-requires c κs = let l = c .before .before .before .before .before in
-    climbing-pushable _ _ _ _ (l .before .before .before .before .pre .rising) (l .loop .inv .1) (c .before .before .before .before .loop-test .taken)
-    (omega (arith, long l, l .before .before .before .before .pre .room))
+part-push-last-start : tie.Need-part-push-last-start Inv-loop μ-loop
+part-push-last-start c = omega (arith, c .before .row-end .ensures .some)
 
-add-i : tie.Need-add-i Inv-loop μ-loop
-add-i c = omega arith
+part-push-last-end : tie.Need-part-push-last-end Inv-loop μ-loop
+part-push-last-end c = c .before .row-end .ensures .upto
+
+push-last-requires : tie.Need-push-last-requires Inv-loop μ-loop
+push-last-requires c κs = let l = c .before .before .before .before in
+    let row = c .before .before .row-end .ensures in (
+      climbing-row _ _ _ _ _ (l .before .before .before .before .pre .rising) (l .loop .inv .1) row,
+      climbing-pushable _ _ _ _ _ (l .before .before .before .before .pre .rising) (l .loop .inv .1) row (omega (arith, long l, l .before .before .before .before .pre .room)),
+    )
 
 loop-less : tie.Need-loop-less Inv-loop μ-loop
-loop-less c = omega arith
+loop-less c = let row = c .before .before .before .before .before .row-end .ensures in
+    omega (arith, row .some, row .upto)
 
 loop-again : tie.Need-loop-again Inv-loop μ-loop
-loop-again c = let l = c .before .before .before .before .before .before .before .before in (
-  c .before .before .push .kept .0 ∙ l .loop .inv .0,
-  climbing-push _ _ _ _ (l .before .before .before .before .pre .rising) (l .loop .inv .1) (c .before .before .before .before .before .before .before .loop-test .taken)
-      (tells-yes (c .before .before .before .before .before .if1 .taken) (c .before .before .before .before .before .before .ends-row .ensures)) _ _ (c .before .before .push .ensures),
-)
-
-add-i-2 : tie.Need-add-i-2 Inv-loop μ-loop
-add-i-2 c = omega arith
-
-loop-less-2 : tie.Need-loop-less-2 Inv-loop μ-loop
-loop-less-2 c = omega arith
-
-loop-again-2 : tie.Need-loop-again-2 Inv-loop μ-loop
-loop-again-2 c = let l = c .before .before .before in (
-  l .loop .inv .0,
-  climbing-skip _ _ _ _ (l .before .before .before .before .pre .rising) (l .loop .inv .1) (c .before .before .loop-test .taken)
-      (tells-no (c .if1 .left) (c .before .ends-row .ensures)),
+loop-again c = let l = c .before .before .before .before .before .before .before in (
+  c .before .before .push-last .kept .0 ∙ l .loop .inv .0,
+  climbing-push _ _ _ _ _ (l .before .before .before .before .pre .rising) (l .loop .inv .1) (c .before .before .before .before .before .row-end .ensures) _ _ (c .before .before .push-last .ensures),
 )
 
 sub-result : tie.Need-sub-result Inv-loop μ-loop
@@ -90,16 +81,14 @@ climb-spec =
     shared-slice-read-stack
     slice-write-stack
     loop-holds
-    ends-row-requires
-    mul-push
-    shared-slice-read-push
-    push-requires
-    add-i
+    row-end-requires
+    mul-push-last
+    sub-push-last
+    part-push-last-start
+    part-push-last-end
+    push-last-requires
     loop-less
     loop-again
-    add-i-2
-    loop-less-2
-    loop-again-2
     sub-result
     same-length
     returns)
