@@ -199,10 +199,10 @@ fn hull_in(
     ensures { λ r. ⌜ HullPromise (now (list .entry)) (now (ordered .entry)) (now (corners .entry)) r (now (ordered .exit)) (now (corners .exit)) ⌝ }
 {
     let found = find(list, ordered, corners, words, sorted, keys, stack);
-    let number = found.number;
+    let refused = found.number;
     let n = found.points;
     let count = found.corners;
-    if number != 0 {
+    if refused != 0 {
         return found;
     }
     write(&keys[..n], &stack[..count], ordered, corners);
