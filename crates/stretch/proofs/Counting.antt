@@ -1,0 +1,86 @@
+-- How many columns a division leaves, and which columns an edge leaves of a row, in natural numbers. Assumes nothing.
+use mathlib.Core.Path.{_≡_, refl, sym, _∙_, ap, subst}
+use mathlib.Core.List.{[], _∷_}
+use Prim.Native.Nat.{ℕ, _+_, _*_, _-_, _/_, _%_, _≤_, _<_}
+use native.Mathlib.Nat.{le-div-iff-mul-le}
+use native.Mathlib.Omega.{arith}
+use lib.Dec.{leb→le, le→leb}
+use lib.IntN.{ℤ, pos, _+ℤ_, _-ℤ_, _*ℤ_}
+use Rattle.whole.proofs.Whole.{quote, _≤ᶻ_, NonNegative, gap≤, linear≤}
+use Rattle.lattice.proofs.Lists.{either}
+use Rattle.lattice.proofs.Places.{lt-or-le}
+use Rattle.packed.specs.Packed.{side, unpacked}
+use Rattle.stretch.specs.Stretch.{Within, Columns, Keeps, LeftOf}
+use Rattle.stretch.specs.declared.Stretch.{Stretch}
+
+-- ---- the columns that a bound leaves
+pub columns-some : (bound steep : ℕ) → 0 < steep → bound / steep < side → Columns bound steep (bound / steep + 1)
+columns-some bound steep s h = record {
+  few = omega arith;
+  below = λ x l. le-div-iff-mul-le s .0 (omega arith);
+  all = λ x l m. let d : x ≤ bound / steep = le-div-iff-mul-le s .1 m in omega arith;
+}
+
+pub columns-all : (bound steep : ℕ) → 0 < steep → side ≤ bound / steep → Columns bound steep side
+columns-all bound steep s h = record {
+  few = omega arith;
+  below = λ x l. le-div-iff-mul-le s .0 (omega arith);
+  all = λ x l m. l;
+}
+
+-- ---- an edge in natural numbers: the column and the row of both its ends
+module _ (a b y x : ℕ) where
+  abbrev pub low : ℕ
+  low = b % side * (a / side) + a % side * y
+
+  abbrev pub high : ℕ
+  high = b / side * (a % side) + b % side * y
+
+  pub left-natural : LeftOf a b y x → b / side * x + low ≤ a / side * x + high
+  left-natural h =
+      let g : pos (b / side * x + low) ≤ᶻ pos (a / side * x + high) =
+          linear≤ (pos (a % side) ∷ pos (a / side) ∷ pos (b % side) ∷ pos (b / side) ∷ pos x ∷ pos y ∷ []) (gap≤ h) (search quote depth 20) tt in
+      leb→le (b / side * x + low) (a / side * x + high) (g .le)
+
+  pub natural-left : b / side * x + low ≤ a / side * x + high → LeftOf a b y x
+  natural-left h =
+      let g : pos (b / side * x + low) ≤ᶻ pos (a / side * x + high) = record { le = le→leb (b / side * x + low) (a / side * x + high) h } in
+      linear≤ (pos (a % side) ∷ pos (a / side) ∷ pos (b % side) ∷ pos (b / side) ∷ pos x ∷ pos y ∷ []) (gap≤ g) (search quote depth 20) tt
+
+-- ---- a stretch kept by one test, kept by another that says the same
+module _ (P : ℕ → Type 0) (s r : Stretch) (h : Keeps P s r) where
+  pub keeps-as : (Q : ℕ → Type 0) → ((x : ℕ) → Within s x → P x → Q x) → ((x : ℕ) → Within s x → Q x → P x) → Keeps Q s r
+  keeps-as Q f g = record {
+    few = h .few;
+    kept = λ x w. let k = h .kept x w in (k .0, f x (k .0) (k .1));
+    all = λ x w q. h .all x w (g x w q);
+  }
+
+  pub keeps-both : (Q : ℕ → Type 0) (t : Stretch) → Keeps Q r t → Keeps (λ x. P x × Q x) s t
+  keeps-both Q t k = record {
+    few = k .few;
+    kept = λ x w. let u = k .kept x w in let v = h .kept x (u .0) in (v .0, (v .1, u .1));
+    all = λ x w q. k .all x (h .all x w (q .0)) (q .1);
+  }
+
+pub keeps-all : (P : ℕ → Type 0) (s : Stretch) → s .to ≤ side → ((x : ℕ) → Within s x → P x) → Keeps P s s
+keeps-all P s l f = record { few = l; kept = λ x w. (w, f x w); all = λ x w p. w }
+
+-- ---- what is left of a stretch on the right side of a rising edge, on the left side of a falling one
+module _ (s r : Stretch) (low high steep : ℕ) (few : s .to ≤ side) where
+  column-few : (x : ℕ) → Within s x → x < side
+  column-few x w = omega (arith, w .to, few)
+
+  pub right-none : high < low → Keeps (λ x. x < 0) s r → Keeps (λ x. x * steep + low ≤ high) s r
+  right-none l h = keeps-as (λ x. x < 0) s r h (λ x. x * steep + low ≤ high) (λ x w p. absurd (omega arith)) (λ x w p. absurd (omega arith))
+
+  pub right-some : (n : ℕ) → low ≤ high → Columns (high - low) steep n → Keeps (λ x. x < n) s r → Keeps (λ x. x * steep + low ≤ high) s r
+  right-some n l k h =
+      keeps-as (λ x. x < n) s r h (λ x. x * steep + low ≤ high) (λ x w p. omega (arith, k .below x p))
+      (λ x w p. k .all x (column-few x w) (omega arith))
+
+  pub left-some : (n : ℕ) → high < low → Columns (low - high - 1) steep n → Keeps (λ x. n ≤ x) s r → Keeps (λ x. low ≤ x * steep + high) s r
+  left-some n l k h =
+      keeps-as (λ x. n ≤ x) s r h (λ x. low ≤ x * steep + high)
+      (λ x w p. either (lt-or-le (x * steep + high) low) (λ u. absurd (omega (arith, p, k .all x (column-few x w) (omega arith)))) (λ u. u))
+      (λ x w p. either (lt-or-le x n) (λ u. absurd (omega (arith, p, k .below x u))) (λ u. u))

@@ -1,0 +1,2 @@
+-- Laws of stretches.
+pub mod Counting

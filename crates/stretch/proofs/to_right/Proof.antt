@@ -1,0 +1,30 @@
+use borrow.Author.Needs.{needs}
+use Rattle.stretch.proofs.to_right.Statement.{statement}
+use Rattle.stretch.proofs.to_right.Tie as tie
+use Rattle.stretch.proofs.to_right.Reads as reads
+use Rattle.stretch.proofs.to_right.Lts as lts
+use Rattle.stretch.proofs.columns.Reads as columns-reads
+use Rattle.stretch.proofs.ended.Reads as ended-reads
+use native.Mathlib.Omega.{arith}
+use Rattle.stretch.proofs.Counting.{right-none, right-some}
+
+
+
+ended-requires : tie.Need-ended-requires
+ended-requires c κs = search needs
+
+returns : tie.Need-returns
+returns c = right-none _ _ _ _ _ (c .before .before .pre .1) (c .before .if1 .taken) (c .ended .ensures)
+
+columns-requires : tie.Need-columns-requires
+columns-requires c κs = search needs
+
+ended-requires-2 : tie.Need-ended-requires-2
+ended-requires-2 c κs = search needs
+
+returns-2 : tie.Need-returns-2
+returns-2 c = right-some _ _ _ _ _ (c .before .before .before .pre .1) _ (c .before .before .if1 .left) (c .before .columns .ensures) (c .ended2 .ensures)
+
+pub to-right-spec : {M : Type 1} → statement M
+to-right-spec =
+    tie.close (tie.spec ended-requires returns columns-requires ended-requires-2 returns-2)

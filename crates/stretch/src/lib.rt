@@ -1,0 +1,73 @@
+// Where a hull begins and ends in each row: what its edges leave of the row.
+ghost use mathlib.Core.Path.{_≡_};
+ghost use Prim.Native.Nat.{_<_, _≤_, _+_, _*_};
+ghost use Rattle.packed.specs.Packed.{side, cells};
+ghost use Rattle.stretch.specs.Stretch.{Columns, Keeps, LeftOf};
+
+// Columns moved to start at 0, from `from` to below `to`.
+pub struct Stretch {
+    pub from: u32,
+    pub to: u32,
+}
+
+const SIDE: u32 = 16384;
+
+// How many columns, from the first, come to at most `bound` when taken `steep` times.
+fn columns(bound: u64, steep: u64) -> u32
+    requires { ⌜ 0 < steep ⌝ }
+    ensures { λ r. ⌜ Columns bound steep r ⌝ }
+{
+    let last = bound / steep;
+    if last < 16384 {
+        return last as u32 + 1;
+    }
+    SIDE
+}
+
+// What is left of a stretch before a column, and from one on.
+fn ended(stretch: Stretch, end: u32) -> Stretch
+    requires { ⌜ end ≤ side ⌝ }
+    ensures { λ r. ⌜ Keeps (λ x. x < end) stretch r ⌝ }
+{
+    if end < stretch.to {
+        return Stretch {
+            from: stretch.from,
+            to: end,
+        };
+    }
+    stretch
+}
+
+fn begun(stretch: Stretch, begin: u32) -> Stretch
+    requires { ⌜ stretch .to ≤ side ⌝ }
+    ensures { λ r. ⌜ Keeps (λ x. begin ≤ x) stretch r ⌝ }
+{
+    if stretch.from < begin {
+        return Stretch {
+            from: begin,
+            to: stretch.to,
+        };
+    }
+    stretch
+}
+
+// The columns x with rise x + low at most high; with low at most fall x + high.
+fn to_right(stretch: Stretch, low: u64, high: u64, rise: u64) -> Stretch
+    requires { ⌜ (0 < rise) × (stretch .to ≤ side) ⌝ }
+    ensures { λ r. ⌜ Keeps (λ x. x * rise + low ≤ high) stretch r ⌝ }
+{
+    if high < low {
+        return ended(stretch, 0);
+    }
+    ended(stretch, columns(high - low, rise))
+}
+
+fn to_left(stretch: Stretch, low: u64, high: u64, fall: u64) -> Stretch
+    requires { ⌜ (0 < fall) × (stretch .to ≤ side) ⌝ }
+    ensures { λ r. ⌜ Keeps (λ x. low ≤ x * fall + high) stretch r ⌝ }
+{
+    if low <= high {
+        return stretch;
+    }
+    begun(stretch, columns(low - high - 1, fall))
+}
