@@ -2,14 +2,14 @@
 use mathlib.Core.Path.{_≡_, refl, sym, _∙_, ap, subst}
 use mathlib.Core.List.{[], _∷_}
 use Prim.Native.Nat.{ℕ, _+_, _*_, _-_, _/_, _%_, _≤_, _<_}
-use native.Mathlib.Nat.{le-div-iff-mul-le}
+use native.Mathlib.Nat.{mul-comm, add-mul, mul-le-mul-right, le-div-iff-mul-le}
 use native.Mathlib.Omega.{arith}
 use lib.Dec.{leb→le, le→leb}
 use lib.IntN.{ℤ, pos, _+ℤ_, _-ℤ_, _*ℤ_}
 use Rattle.whole.proofs.Whole.{quote, _≤ᶻ_, NonNegative, gap≤, linear≤}
 use Rattle.lattice.proofs.Lists.{either}
 use Rattle.lattice.proofs.Places.{lt-or-le}
-use Rattle.packed.specs.Packed.{side, unpacked}
+use Rattle.packed.specs.Packed.{side, cells}
 use Rattle.stretch.specs.Stretch.{Within, Columns, Keeps, LeftOf}
 use Rattle.stretch.specs.declared.Stretch.{Stretch}
 
@@ -29,22 +29,27 @@ columns-all bound steep s h = record {
 }
 
 -- ---- an edge in natural numbers: the column and the row of both its ends
+abbrev pub low : ℕ → ℕ → ℕ → ℕ
+low a b y = b % side * (a / side) + a % side * y
+
+abbrev pub high : ℕ → ℕ → ℕ → ℕ
+high a b y = b / side * (a % side) + b % side * y
+
+pub product-small : (m n : ℕ) → m < side → n < side → m * n < cells
+product-small m n h g =
+    let l : m ≤ 16383 = omega arith in
+    omega (arith, mul-le-mul-right n l)
+
 module _ (a b y x : ℕ) where
-  abbrev pub low : ℕ
-  low = b % side * (a / side) + a % side * y
-
-  abbrev pub high : ℕ
-  high = b / side * (a % side) + b % side * y
-
-  pub left-natural : LeftOf a b y x → b / side * x + low ≤ a / side * x + high
+  pub left-natural : LeftOf a b y x → b / side * x + low a b y ≤ a / side * x + high a b y
   left-natural h =
-      let g : pos (b / side * x + low) ≤ᶻ pos (a / side * x + high) =
-          linear≤ (pos (a % side) ∷ pos (a / side) ∷ pos (b % side) ∷ pos (b / side) ∷ pos x ∷ pos y ∷ []) (gap≤ h) (search quote depth 20) tt in
-      leb→le (b / side * x + low) (a / side * x + high) (g .le)
+      let g : pos (b / side * x + low a b y) ≤ᶻ pos (a / side * x + high a b y) =
+      linear≤ (pos (a % side) ∷ pos (a / side) ∷ pos (b % side) ∷ pos (b / side) ∷ pos x ∷ pos y ∷ []) (gap≤ h) (search quote depth 20) tt in
+      leb→le (b / side * x + low a b y) (a / side * x + high a b y) (g .le)
 
-  pub natural-left : b / side * x + low ≤ a / side * x + high → LeftOf a b y x
+  pub natural-left : b / side * x + low a b y ≤ a / side * x + high a b y → LeftOf a b y x
   natural-left h =
-      let g : pos (b / side * x + low) ≤ᶻ pos (a / side * x + high) = record { le = le→leb (b / side * x + low) (a / side * x + high) h } in
+      let g : pos (b / side * x + low a b y) ≤ᶻ pos (a / side * x + high a b y) = record { le = le→leb (b / side * x + low a b y) (a / side * x + high a b y) h } in
       linear≤ (pos (a % side) ∷ pos (a / side) ∷ pos (b % side) ∷ pos (b / side) ∷ pos x ∷ pos y ∷ []) (gap≤ g) (search quote depth 20) tt
 
 -- ---- a stretch kept by one test, kept by another that says the same
@@ -84,3 +89,32 @@ module _ (s r : Stretch) (low high steep : ℕ) (few : s .to ≤ side) where
       keeps-as (λ x. n ≤ x) s r h (λ x. low ≤ x * steep + high)
       (λ x w p. either (lt-or-le (x * steep + high) low) (λ u. absurd (omega (arith, p, k .all x (column-few x w) (omega arith)))) (λ u. u))
       (λ x w p. either (lt-or-le x n) (λ u. absurd (omega (arith, p, k .below x u))) (λ u. u))
+
+-- ---- an edge that rises, falls, or does neither
+module _ (a b y : ℕ) (s r : Stretch) (few : s .to ≤ side) where
+  split : (m n x : ℕ) → m < n → (n - m) * x + m * x ≡ n * x
+  split m n x l = sym (add-mul (n - m) m x) ∙ ap (λ k. k * x) (omega arith)
+
+  pub narrow-rising : a / side < b / side → Keeps (λ x. x * (b / side - a / side) + low a b y ≤ high a b y) s r → Keeps (LeftOf a b y) s r
+  narrow-rising l h =
+      keeps-as (λ x. x * (b / side - a / side) + low a b y ≤ high a b y) s r h (LeftOf a b y)
+      (λ x w p. natural-left a b y x (omega (arith, p, split (a / side) (b / side) x l, mul-comm x (b / side - a / side))))
+      (λ x w p. omega (arith, left-natural a b y x p, split (a / side) (b / side) x l, mul-comm x (b / side - a / side)))
+
+  pub narrow-falling : b / side < a / side → Keeps (λ x. low a b y ≤ x * (a / side - b / side) + high a b y) s r → Keeps (LeftOf a b y) s r
+  narrow-falling l h =
+      keeps-as (λ x. low a b y ≤ x * (a / side - b / side) + high a b y) s r h (LeftOf a b y)
+      (λ x w p. natural-left a b y x (omega (arith, p, split (b / side) (a / side) x l, mul-comm x (a / side - b / side))))
+      (λ x w p. omega (arith, left-natural a b y x p, split (b / side) (a / side) x l, mul-comm x (a / side - b / side)))
+
+  -- in one row: all columns or none
+  level : (x : ℕ) → a / side ≡ b / side → a / side * x ≡ b / side * x
+  level x e = ap (λ k. k * x) e
+
+  pub narrow-none : a / side ≡ b / side → high a b y < low a b y → Keeps (λ x. x < 0) s r → Keeps (LeftOf a b y) s r
+  narrow-none e l h =
+      keeps-as (λ x. x < 0) s r h (LeftOf a b y) (λ x w p. absurd (omega arith))
+      (λ x w p. absurd (omega (arith, l, left-natural a b y x p, level x e)))
+
+pub narrow-all : (a b y : ℕ) (s : Stretch) → s .to ≤ side → a / side ≡ b / side → low a b y ≤ high a b y → Keeps (LeftOf a b y) s s
+narrow-all a b y s few e l = keeps-all (LeftOf a b y) s few (λ x w. natural-left a b y x (omega (arith, l, level a b y s s few x e)))

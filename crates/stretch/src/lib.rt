@@ -71,3 +71,26 @@ fn to_left(stretch: Stretch, low: u64, high: u64, fall: u64) -> Stretch
     }
     begun(stretch, columns(low - high - 1, fall))
 }
+
+// What the edge from a to b leaves of a stretch of row y.
+fn narrow(a: u32, b: u32, y: u32, stretch: Stretch) -> Stretch
+    requires { ⌜ (a < cells) × (b < cells) × (y < side) × (stretch .to ≤ side) ⌝ }
+    ensures { λ r. ⌜ Keeps (LeftOf a b y) stretch r ⌝ }
+{
+    let ax = (a % SIDE) as u64;
+    let ay = (a / SIDE) as u64;
+    let bx = (b % SIDE) as u64;
+    let by = (b / SIDE) as u64;
+    let low = bx * ay + ax * y as u64;
+    let high = by * ax + bx * y as u64;
+    if ay < by {
+        return to_right(stretch, low, high, by - ay);
+    }
+    if by < ay {
+        return to_left(stretch, low, high, ay - by);
+    }
+    if low <= high {
+        return stretch;
+    }
+    ended(stretch, 0)
+}

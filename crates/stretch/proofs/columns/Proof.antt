@@ -1,12 +1,9 @@
+-- `stretch::columns` meets its contract: a division by the steepness. Assumes nothing.
+use native.Mathlib.Omega.{arith}
 use borrow.Author.Needs.{needs}
+use Rattle.stretch.proofs.Counting.{columns-some, columns-all}
 use Rattle.stretch.proofs.columns.Statement.{statement}
 use Rattle.stretch.proofs.columns.Tie as tie
-use Rattle.stretch.proofs.columns.Reads as reads
-use Rattle.stretch.proofs.columns.Lts as lts
-use native.Mathlib.Omega.{arith}
-use Rattle.stretch.proofs.Counting.{columns-some, columns-all}
-
-
 
 div-last : tie.Need-div-last
 div-last c = search needs

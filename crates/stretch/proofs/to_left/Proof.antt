@@ -1,14 +1,9 @@
+-- `stretch::to_left` meets its contract: a falling edge leaves what lies to its right. Assumes nothing.
+use native.Mathlib.Omega.{arith}
 use borrow.Author.Needs.{needs}
+use Rattle.stretch.proofs.Counting.{left-some}
 use Rattle.stretch.proofs.to_left.Statement.{statement}
 use Rattle.stretch.proofs.to_left.Tie as tie
-use Rattle.stretch.proofs.to_left.Reads as reads
-use Rattle.stretch.proofs.to_left.Lts as lts
-use Rattle.stretch.proofs.begun.Reads as begun-reads
-use Rattle.stretch.proofs.columns.Reads as columns-reads
-use native.Mathlib.Omega.{arith}
-use Rattle.stretch.proofs.Counting.{left-some}
-
-
 
 returns : tie.Need-returns
 returns c = search needs

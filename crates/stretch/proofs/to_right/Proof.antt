@@ -1,14 +1,9 @@
+-- `stretch::to_right` meets its contract: a rising edge leaves what lies to its left. Assumes nothing.
+use native.Mathlib.Omega.{arith}
 use borrow.Author.Needs.{needs}
+use Rattle.stretch.proofs.Counting.{right-none, right-some}
 use Rattle.stretch.proofs.to_right.Statement.{statement}
 use Rattle.stretch.proofs.to_right.Tie as tie
-use Rattle.stretch.proofs.to_right.Reads as reads
-use Rattle.stretch.proofs.to_right.Lts as lts
-use Rattle.stretch.proofs.columns.Reads as columns-reads
-use Rattle.stretch.proofs.ended.Reads as ended-reads
-use native.Mathlib.Omega.{arith}
-use Rattle.stretch.proofs.Counting.{right-none, right-some}
-
-
 
 ended-requires : tie.Need-ended-requires
 ended-requires c κs = search needs
