@@ -19,7 +19,7 @@ use Rattle.lattice.proofs.Sandwich.{spans-itself, corner-list-of-spanned}
 use Rattle.packed.specs.Packed.{cells, unpacked}
 use Rattle.packed.proofs.RowOrder.{unpacked-injective, unpacked-in-range}
 use Rattle.order.specs.Keys.{Below}
-use Rattle.order.proofs.KeyLaws.{in-unpacked}
+use Rattle.packed.proofs.KeyLaws.{in-unpacked}
 use Rattle.hull.specs.Scanning.{at, Pushable, Pushed, EndsRow, StartsRow, RowTo, RowFrom, firstOf, lastOf, Rising, Climbed, Cornered}
 use Rattle.hull.proofs.Ways.{Standing, standing-start, standing-same, standing-pushable, standing-pushed, standing-top, standing-all}
 use Rattle.hull.proofs.Rows.{rowAt, part, part-length, part-first, part-last, up, down, up-over}

@@ -21,7 +21,7 @@ use Rattle.packed.specs.Packed.{unpacked}
 use Rattle.packed.proofs.RowOrder.{unpacked-before}
 use Rattle.order.specs.declared.Ordered.{Ordered}
 use Rattle.order.specs.Keys.{Below, KeysOf, Finds}
-use Rattle.order.proofs.KeyLaws.{unpacked-at}
+use Rattle.packed.proofs.KeyLaws.{unpacked-at}
 use Rattle.hull.specs.declared.Hulled.{Hulled}
 use Rattle.hull.specs.Scanning.{Rising, Cornered}
 use Rattle.hull.specs.Hull.{FewerThanCorners, hullRows, Hulls, HullResult, HullPromise}

@@ -17,7 +17,7 @@ use Rattle.lattice.proofs.Stack.{stack as stackOf}
 use Rattle.lattice.proofs.BothChains.{bottom-stack}
 use Rattle.lattice.proofs.RowScan.{Pushes, pushes-scan, Beside, scan-of-ends}
 use Rattle.packed.specs.Packed.{cells, unpacked}
-use Rattle.order.proofs.KeyLaws.{unpacked-in, in-unpacked}
+use Rattle.packed.proofs.KeyLaws.{unpacked-in, in-unpacked}
 use Rattle.hull.specs.Scanning.{at, Pushable, Pushed}
 
 -- a way through the points from the first to the last place: which comes after which, and that each has an end of its row beside it

@@ -5,7 +5,6 @@ pub mod InOrder
 pub mod Reading
 pub mod RowLaws
 pub mod Pinned
-pub mod KeyLaws
 pub mod Sorting
 pub mod Filling
 pub mod Finding

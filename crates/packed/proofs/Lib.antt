@@ -3,3 +3,4 @@ pub mod Small
 pub mod Border
 pub mod Tests
 pub mod RowOrder
+pub mod KeyLaws

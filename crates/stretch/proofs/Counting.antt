@@ -7,10 +7,12 @@ use native.Mathlib.Omega.{arith}
 use lib.Dec.{leb→le, le→leb}
 use lib.IntN.{ℤ, pos, _+ℤ_, _-ℤ_, _*ℤ_}
 use Rattle.whole.proofs.Whole.{quote, _≤ᶻ_, NonNegative, gap≤, linear≤}
+use Rattle.lattice.specs.Point.{Before}
 use Rattle.lattice.proofs.Lists.{either}
 use Rattle.lattice.proofs.Places.{lt-or-le}
-use Rattle.packed.specs.Packed.{side, cells}
-use Rattle.stretch.specs.Stretch.{Within, Columns, Keeps, LeftOf}
+use Rattle.packed.specs.Packed.{side, cells, placed, unpacked}
+use Rattle.packed.proofs.RowOrder.{before-unpacked, unpacked-before}
+use Rattle.stretch.specs.Stretch.{cell, Within, Columns, Keeps, LeftOf}
 use Rattle.stretch.specs.declared.Stretch.{Stretch}
 
 -- ---- the columns that a bound leaves
@@ -72,22 +74,22 @@ pub keeps-all : (P : ℕ → Type 0) (s : Stretch) → s .to ≤ side → ((x : 
 keeps-all P s l f = record { few = l; kept = λ x w. (w, f x w); all = λ x w p. w }
 
 -- ---- what is left of a stretch on the right side of a rising edge, on the left side of a falling one
-module _ (s r : Stretch) (low high steep : ℕ) (few : s .to ≤ side) where
-  column-few : (x : ℕ) → Within s x → x < side
-  column-few x w = omega (arith, w .to, few)
+column-few : (s : Stretch) → s .to ≤ side → (x : ℕ) → Within s x → x < side
+column-few s few x w = omega (arith, w .to, few)
 
+module _ (s r : Stretch) (low high steep : ℕ) (few : s .to ≤ side) where
   pub right-none : high < low → Keeps (λ x. x < 0) s r → Keeps (λ x. x * steep + low ≤ high) s r
   right-none l h = keeps-as (λ x. x < 0) s r h (λ x. x * steep + low ≤ high) (λ x w p. absurd (omega arith)) (λ x w p. absurd (omega arith))
 
   pub right-some : (n : ℕ) → low ≤ high → Columns (high - low) steep n → Keeps (λ x. x < n) s r → Keeps (λ x. x * steep + low ≤ high) s r
   right-some n l k h =
       keeps-as (λ x. x < n) s r h (λ x. x * steep + low ≤ high) (λ x w p. omega (arith, k .below x p))
-      (λ x w p. k .all x (column-few x w) (omega arith))
+      (λ x w p. k .all x (column-few s few x w) (omega arith))
 
   pub left-some : (n : ℕ) → high < low → Columns (low - high - 1) steep n → Keeps (λ x. n ≤ x) s r → Keeps (λ x. low ≤ x * steep + high) s r
   left-some n l k h =
       keeps-as (λ x. n ≤ x) s r h (λ x. low ≤ x * steep + high)
-      (λ x w p. either (lt-or-le (x * steep + high) low) (λ u. absurd (omega (arith, p, k .all x (column-few x w) (omega arith)))) (λ u. u))
+      (λ x w p. either (lt-or-le (x * steep + high) low) (λ u. absurd (omega (arith, p, k .all x (column-few s few x w) (omega arith)))) (λ u. u))
       (λ x w p. either (lt-or-le x n) (λ u. absurd (omega (arith, p, k .below x u))) (λ u. u))
 
 -- ---- an edge that rises, falls, or does neither
@@ -118,3 +120,43 @@ module _ (a b y : ℕ) (s r : Stretch) (few : s .to ≤ side) where
 
 pub narrow-all : (a b y : ℕ) (s : Stretch) → s .to ≤ side → a / side ≡ b / side → low a b y ≤ high a b y → Keeps (LeftOf a b y) s s
 narrow-all a b y s few e l = keeps-all (LeftOf a b y) s few (λ x w. natural-left a b y x (omega (arith, l, level a b y s s few x e)))
+
+-- ---- the first and the last corner
+cell-unpacked : (x y : ℕ) → x < side → cell x y ≡ unpacked (side * y + x)
+cell-unpacked x y h =
+    let e : x ≡ (side * y + x) % side = omega arith in
+    let f : y ≡ (side * y + x) / side = omega arith in
+    λ i. record { x = placed (e i); y = placed (f i) }
+
+module _ (k x y : ℕ) (h : x < side) where
+  pub cell-before : Before (cell x y) (unpacked k) → side * y + x < k
+  cell-before b = unpacked-before (side * y + x) k (subst (λ p. Before p (unpacked k)) (cell-unpacked x y h) b)
+
+  pub before-cell : Before (unpacked k) (cell x y) → k < side * y + x
+  before-cell b = unpacked-before k (side * y + x) (subst (Before (unpacked k)) (cell-unpacked x y h) b)
+
+  pub is-cell-before : side * y + x < k → Before (cell x y) (unpacked k)
+  is-cell-before l = subst (λ p. Before p (unpacked k)) (sym (cell-unpacked x y h)) (before-unpacked (side * y + x) k l)
+
+  pub is-before-cell : k < side * y + x → Before (unpacked k) (cell x y)
+  is-before-cell l = subst (Before (unpacked k)) (sym (cell-unpacked x y h)) (before-unpacked k (side * y + x) l)
+
+module _ (k y : ℕ) (s r : Stretch) (few : s .to ≤ side) where
+  pub first-same : k / side ≡ y → Keeps (λ x. k % side ≤ x) s r → Keeps (λ x. Before (cell x y) (unpacked k) → ⊥) s r
+  first-same e h =
+      keeps-as (λ x. k % side ≤ x) s r h (λ x. Before (cell x y) (unpacked k) → ⊥)
+      (λ x w p b. omega (arith, p, cell-before k x y (column-few s few x w) b))
+      (λ x w p. either (lt-or-le x (k % side)) (λ l. absurd (p (is-cell-before k x y (column-few s few x w) (omega arith)))) (λ l. l))
+
+  pub last-same : k / side ≡ y → Keeps (λ x. x < k % side + 1) s r → Keeps (λ x. Before (unpacked k) (cell x y) → ⊥) s r
+  last-same e h =
+      keeps-as (λ x. x < k % side + 1) s r h (λ x. Before (unpacked k) (cell x y) → ⊥)
+      (λ x w p b. omega (arith, p, before-cell k x y (column-few s few x w) b))
+      (λ x w p. either (lt-or-le x (k % side + 1)) (λ l. l) (λ l. absurd (p (is-before-cell k x y (column-few s few x w) (omega arith)))))
+
+pub first-below : (k y : ℕ) (s : Stretch) → s .to ≤ side → k / side < y → Keeps (λ x. Before (cell x y) (unpacked k) → ⊥) s s
+first-below k y s few l = keeps-all (λ x. Before (cell x y) (unpacked k) → ⊥) s few (λ x w b. omega (arith, l, cell-before k x y (column-few s few x w) b))
+
+pub last-above : (k y : ℕ) (s : Stretch) → s .to ≤ side → y < k / side → Keeps (λ x. Before (unpacked k) (cell x y) → ⊥) s s
+last-above k y s few l = keeps-all (λ x. Before (unpacked k) (cell x y) → ⊥) s few
+    (λ x w b. omega (arith, l, before-cell k x y (column-few s few x w) b, column-few s few x w))

@@ -1,2 +1,3 @@
 -- Laws of stretches.
 pub mod Counting
+pub mod Rowing

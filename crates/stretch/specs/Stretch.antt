@@ -1,12 +1,13 @@
 -- The points of a row that lie in a hull: one stretch of columns. Assumes nothing.
 use mathlib.Core.Path.{_≡_}
-use mathlib.Core.List.{List}
-use Prim.Native.Nat.{ℕ, _*_, _≤_, _<_}
+use mathlib.Core.List.{List, map}
+use Prim.Native.Nat.{ℕ, _*_, _/_, _≤_, _<_}
+use lib.ListN.{length, getD}
 use lib.IntN.{pos}
 use lib.Signed.{_≤ℤ_}
-use Rattle.lattice.specs.Point.{Point, In, Before}
-use Rattle.lattice.specs.Hull.{turn, InHull, Of}
-use Rattle.packed.specs.Packed.{side, placed, unpacked}
+use Rattle.lattice.specs.Point.{Point, Before}
+use Rattle.lattice.specs.Hull.{turn, InHull, Of, CornerList}
+use Rattle.packed.specs.Packed.{side, cells, placed, unpacked}
 use Rattle.stretch.specs.declared.Stretch.{Stretch}
 
 -- the lattice point in a column and a row, both moved to start at 0
@@ -33,6 +34,16 @@ pub record Keeps (P : ℕ → Type 0) (s r : Stretch) : Type 0 where
 -- the point of row y in column x is to the left of the edge from a to b, or on it
 abbrev pub LeftOf : ℕ → ℕ → ℕ → ℕ → Type 0
 LeftOf a b y x = pos 0 ≤ℤ turn (unpacked a) (unpacked b) (cell x y)
+
+-- corners as packed points, the last of them in row order, and a row between the first and the last
+pub record Rowed (corners : List ℕ) (last y : ℕ) : Type 0 where
+  pub some : 0 < length corners
+  pub below : (i : ℕ) → i < length corners → getD corners i 0 < cells
+  pub listed : CornerList (map unpacked corners) (map unpacked corners)
+  pub greatest : (i : ℕ) → i < length corners → getD corners i 0 ≤ last
+  pub held : (i : ℕ) × (i < length corners) × (getD corners i 0 ≡ last)
+  pub from-row : getD corners 0 0 / side ≤ y
+  pub to-row : y ≤ last / side
 
 -- the stretch has exactly the columns in which row y has a point of the hull of c
 pub record StretchOf (c : List Point) (y : ℕ) (s : Stretch) : Type 0 where

@@ -1,8 +1,10 @@
 // Where a hull begins and ends in each row: what its edges leave of the row.
 ghost use mathlib.Core.Path.{_≡_};
-ghost use Prim.Native.Nat.{_<_, _≤_, _+_, _*_};
-ghost use Rattle.packed.specs.Packed.{side, cells};
-ghost use Rattle.stretch.specs.Stretch.{Columns, Keeps, LeftOf};
+ghost use mathlib.Core.List.{map};
+ghost use Prim.Native.Nat.{_<_, _≤_, _+_, _*_, _/_};
+ghost use Rattle.lattice.specs.Point.{Before};
+ghost use Rattle.packed.specs.Packed.{side, cells, unpacked};
+ghost use Rattle.stretch.specs.Stretch.{cell, Columns, Keeps, LeftOf, Rowed, StretchOf};
 
 // Columns moved to start at 0, from `from` to below `to`.
 pub struct Stretch {
@@ -93,4 +95,54 @@ fn narrow(a: u32, b: u32, y: u32, stretch: Stretch) -> Stretch
         return stretch;
     }
     ended(stretch, 0)
+}
+
+// What is left of a stretch of row y from the first corner on; up to the last in row order.
+fn from_first(first: u32, y: u32, stretch: Stretch) -> Stretch
+    requires { ⌜ (first < cells) × (first / side ≤ y) × (stretch .to ≤ side) ⌝ }
+    ensures { λ r. ⌜ Keeps (λ x. Before (cell x y) (unpacked first) → ⊥) stretch r ⌝ }
+{
+    if first / SIDE == y {
+        return begun(stretch, first % SIDE);
+    }
+    stretch
+}
+
+fn to_last(last: u32, y: u32, stretch: Stretch) -> Stretch
+    requires { ⌜ (last < cells) × (y ≤ last / side) × (stretch .to ≤ side) ⌝ }
+    ensures { λ r. ⌜ Keeps (λ x. Before (unpacked last) (cell x y) → ⊥) stretch r ⌝ }
+{
+    if last / SIDE == y {
+        return ended(stretch, last % SIDE + 1);
+    }
+    stretch
+}
+
+// A stretch that does not end before it begins.
+fn tidy(stretch: Stretch) -> Stretch
+    requires { ⌜ stretch .to ≤ side ⌝ }
+    ensures { λ r. ⌜ (r .from ≤ r .to) × Keeps (λ x. Unit {0}) stretch r ⌝ }
+{
+    if stretch.to < stretch.from {
+        return Stretch {
+            from: stretch.to,
+            to: stretch.to,
+        };
+    }
+    stretch
+}
+
+// The columns of row y that lie in the hull, by its corners and the last of them in row order.
+pub fn of_row(corners: &[u32], last: u32, y: u32) -> Stretch
+    requires { ⌜ Rowed (now corners) last y ⌝ }
+    ensures { λ r. ⌜ StretchOf (map unpacked (now (corners .entry))) y r ⌝ }
+{
+    let row = Stretch { from: 0, to: SIDE };
+    let mut left = to_last(last, y, from_first(corners[0], y, row));
+    let mut i: usize = 1;
+    while i < corners.len() {
+        left = narrow(corners[i - 1], corners[i], y, left);
+        i += 1;
+    }
+    tidy(narrow(corners[i - 1], corners[0], y, left))
 }
