@@ -1,0 +1,5 @@
+-- Laws of the loops of this crate.
+pub mod Tests
+pub mod Reading
+pub mod Parts
+pub mod Sizes
