@@ -3,3 +3,4 @@ pub mod Tests
 pub mod Reading
 pub mod Parts
 pub mod Sizes
+pub mod Headers

@@ -18,7 +18,7 @@ use Rattle.bitmap.proofs.Reading.{read-byte, comment-begins}
 use Rattle.bitmap.proofs.Tests.{is-digit, line-end-no-digit, ends-of}
 use Rattle.bitmap.proofs.Parts.{behind-stops, behind-goes, starts-byte, starts-end}
 
-abbrev limit : ℕ
+abbrev pub limit : ℕ
 limit = suc greatestSize
 
 -- ---- digits

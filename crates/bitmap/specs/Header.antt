@@ -53,13 +53,12 @@ sizeThen bytes l rest =
     (unless (inSize (size digits)) (broken bytes digits) (rest (size digits) (behind digit digits)))
 
 -- one white space, then the pixels
-abbrev pub spaceThen : List ℕ → List Placed → (ℕ → Header) → Header
-spaceThen bytes l rest = unless (starts whiteSpace l) (broken bytes l) (rest (suc (placeIn bytes l)))
+abbrev pub afterHeight : List ℕ → ℕ → ℕ → List Placed → Header
+afterHeight bytes width height l = unless (starts whiteSpace l) (broken bytes l) (Sound width height (suc (placeIn bytes l)))
+
+abbrev pub afterWidth : List ℕ → ℕ → List Placed → Header
+afterWidth bytes width l = sizeThen bytes l (afterHeight bytes width)
 
 -- "P1, white space, width, white space, height, one white space, then the pixels"
 abbrev pub headerOf : List ℕ → Header
-headerOf bytes =
-    sizeThen bytes (readAt bytes 2) λ width l.
-    sizeThen bytes l λ height m.
-    spaceThen bytes m λ at.
-    Sound width height at
+headerOf bytes = sizeThen bytes (readAt bytes 2) (afterWidth bytes)

@@ -213,3 +213,66 @@ fn check_header(bytes: &[u8]) -> Header
         Part::Bad(place) => Header::Bad(place),
     }
 }
+
+// The place of the next byte that is no white space; a place past the end stays.
+fn blanks(bytes: &[u8], at: usize) -> usize
+    ensures { λ r. ⌜ Skips (now (bytes .entry)) at r ⌝ }
+{
+    let mut i = at;
+    while i < bytes.len() {
+        if white_space(bytes[i]) {
+            i += 1;
+        } else {
+            return i;
+        }
+    }
+    i
+}
+
+// How pixels are fetched: the next one from a place on.
+fn fetch(bytes: &[u8], at: usize) -> Pixel
+    ensures { λ r. ⌜ Fetches (now (bytes .entry)) at r ⌝ }
+{
+    let i = blanks(bytes, at);
+    if i < bytes.len() {
+        let b = bytes[i];
+        if b == b'1' {
+            return Pixel::Black(i + 1);
+        }
+        if b == b'0' {
+            return Pixel::White(i + 1);
+        }
+        return Pixel::Fault(23, i);
+    }
+    Pixel::Fault(24, i)
+}
+
+// The pixels from a place on, checked and counted.
+fn check_pixels(bytes: &[u8], at: usize, pixels: usize) -> Count
+    ensures { λ r. ⌜ r ≡ counted 0 (plain (drop at (now (bytes .entry))) pixels at) ⌝ }
+{
+    let mut black: usize = 0;
+    let mut k: usize = 0;
+    let mut i = at;
+    while k < pixels {
+        match fetch(bytes, i) {
+            Pixel::Black(next) => {
+                black += 1;
+                k += 1;
+                i = next;
+            }
+            Pixel::White(next) => {
+                k += 1;
+                i = next;
+            }
+            Pixel::Fault(number, place) => {
+                return Count::Fault(number, place);
+            }
+        }
+    }
+    let end = blanks(bytes, i);
+    if end < bytes.len() {
+        return Count::Fault(25, end);
+    }
+    Count::Black(black)
+}
