@@ -4,3 +4,5 @@ pub mod Reading
 pub mod Parts
 pub mod Sizes
 pub mod Headers
+pub mod Plain
+pub mod Counting

@@ -4,7 +4,7 @@ use mathlib.Core.Bool.{Bool, cond, _&&_}
 use mathlib.Core.List.{List}
 use Prim.Native.Nat.{ℕ, _*_}
 use lib.Dec.{eqb, ltb}
-use lib.ListN.{length, getD, drop}
+use lib.ListN.{length, getD}
 use lib.IntN.{ℤ}
 use Rattle.lattice.specs.Point.{Point, most}
 use Rattle.lattice.specs.Room.{holding}
@@ -12,7 +12,7 @@ use Rattle.bitmap.specs.declared.Header.{Header}
 use Rattle.bitmap.specs.declared.Header.the-variants.{Sound, Bad}
 use Rattle.bitmap.specs.declared.Picture.{Picture}
 use Rattle.bitmap.specs.Header.{headerOf}
-use Rattle.bitmap.specs.Pixels.{Raster, pixels, fault, plain, black}
+use Rattle.bitmap.specs.Pixels.{Raster, pixels, fault, plainAt, black}
 
 -- a picture with its black pixels, or number and place of its refusal
 pub data Reading : Type 0 where
@@ -37,7 +37,7 @@ rastered width height (fault number place) = refused number place
 
 -- 22 "bad header"
 abbrev pub headed : List ℕ → Header → Reading
-headed bytes (Sound width height at) = rastered width height (plain (drop at bytes) (width * height) at)
+headed bytes (Sound width height at) = rastered width height (plainAt bytes (width * height) at)
 headed bytes (Bad place) = refused 22 place
 
 -- "Checks: 20, 21, then the first fault from the left, then 2"

@@ -4,6 +4,7 @@ use mathlib.Core.Bool.{Bool, true, false, cond}
 use mathlib.Core.List.{List, [], _∷_}
 use Prim.Native.Nat.{ℕ, zero, suc, _/_, _%_}
 use lib.Dec.{eqb}
+use lib.ListN.{drop}
 use lib.IntN.{pos}
 use Rattle.lattice.specs.Point.{Point}
 use Rattle.bitmap.specs.Bytes.{whiteSpace}
@@ -28,6 +29,9 @@ plain (b ∷ rest) (suc n) i =
     let skipped = plain rest (suc n) (suc i) in
     let others = plain rest n (suc i) in
     cond (whiteSpace b) skipped (cond (eqb b 49) (onto true others) (cond (eqb b 48) (onto false others) (fault 23 i)))
+
+abbrev pub plainAt : List ℕ → ℕ → ℕ → Raster
+plainAt bytes n i = plain (drop i bytes) n i
 
 -- "the pixels by rows from the top": pixel k, from 0; "A black pixel in column x and row y, both from 0, is the point (x, y)."
 abbrev pub pixelPoint : ℕ → ℕ → Point

@@ -3,7 +3,7 @@ use mathlib.Core.Path.{_≡_}
 use mathlib.Core.Bool.{Bool, true, false}
 use mathlib.Core.List.{List, [], _∷_}
 use Prim.Native.Nat.{ℕ, suc, _+_, _≤_, _<_, min}
-use lib.ListN.{length, getD, drop}
+use lib.ListN.{length, getD}
 use Rattle.bitmap.specs.declared.Run.{Run}
 use Rattle.bitmap.specs.declared.Part.{Part}
 use Rattle.bitmap.specs.declared.Part.the-variants as parts
@@ -15,7 +15,7 @@ use Rattle.bitmap.specs.declared.Count.{Count}
 use Rattle.bitmap.specs.declared.Count.the-variants as counts
 use Rattle.bitmap.specs.Bytes.{whiteSpace, hash, digit, Placed, readAt}
 use Rattle.bitmap.specs.Header.{behind, size as sizeOf, greatestSize, sizeThen}
-use Rattle.bitmap.specs.Pixels.{Raster, pixels, fault, onto, plain}
+use Rattle.bitmap.specs.Pixels.{Raster, pixels, fault, onto, plainAt}
 
 -- ---- the header
 -- no comment begins at the place
@@ -42,16 +42,16 @@ Sized bytes at (parts.Size size end) =
 Sized bytes at (parts.Bad place) = (rest : ℕ → List Placed → Header) → sizeThen bytes (readAt bytes at) rest ≡ Bad place
 
 -- ---- the pixels
--- r is the next byte that is no white space, or the end
+-- r is the next byte that is no white space, or past the end
 pub record Skips (bytes : List ℕ) (at r : ℕ) : Type 0 where
-  pub same : (n : ℕ) → plain (drop at bytes) n at ≡ plain (drop r bytes) n r
+  pub same : (n : ℕ) → plainAt bytes n at ≡ plainAt bytes n r
   pub stops : r < length bytes → whiteSpace (getD bytes r 0) ≡ false
 
--- the pixels from a place are the one found there and those behind it, or its fault
-abbrev pub Fetches : List ℕ → ℕ → Pixel → Type 0
-Fetches bytes at (Black next) = (n : ℕ) → plain (drop at bytes) (suc n) at ≡ onto true (plain (drop next bytes) n next)
-Fetches bytes at (White next) = (n : ℕ) → plain (drop at bytes) (suc n) at ≡ onto false (plain (drop next bytes) n next)
-Fetches bytes at (Fault number place) = (n : ℕ) → plain (drop at bytes) (suc n) at ≡ fault number place
+-- n + 1 pixels from a place are the one found there and n behind it, or its fault, however a raster is read
+abbrev pub Fetches : (ℕ → ℕ → Raster) → ℕ → Pixel → Type 0
+Fetches raster at (Black next) = (n : ℕ) → raster (suc n) at ≡ onto true (raster n next)
+Fetches raster at (White next) = (n : ℕ) → raster (suc n) at ≡ onto false (raster n next)
+Fetches raster at (Fault number place) = (n : ℕ) → raster (suc n) at ≡ fault number place
 
 -- how many are black
 abbrev pub blacks : List Bool → ℕ

@@ -6,7 +6,7 @@ ghost use lib.ListN.{length, getD, drop};
 ghost use lib.Dec.{eqb};
 ghost use Rattle.bitmap.specs.Bytes.{whiteSpace, hash, readIn, readAt};
 ghost use Rattle.bitmap.specs.Header.{starts, behind, inSize, greatestSize, headerOf};
-ghost use Rattle.bitmap.specs.Pixels.{plain};
+ghost use Rattle.bitmap.specs.Pixels.{plainAt};
 ghost use Rattle.bitmap.specs.Picture.{beginsP1, PicturePromise};
 ghost use Rattle.bitmap.specs.Steps.{Settled, Leads, RunAt, Sized, Skips, Fetches, counted};
 
@@ -231,7 +231,7 @@ fn blanks(bytes: &[u8], at: usize) -> usize
 
 // How pixels are fetched: the next one from a place on.
 fn fetch(bytes: &[u8], at: usize) -> Pixel
-    ensures { λ r. ⌜ Fetches (now (bytes .entry)) at r ⌝ }
+    ensures { λ r. ⌜ Fetches (plainAt (now (bytes .entry))) at r ⌝ }
 {
     let i = blanks(bytes, at);
     if i < bytes.len() {
@@ -249,7 +249,7 @@ fn fetch(bytes: &[u8], at: usize) -> Pixel
 
 // The pixels from a place on, checked and counted.
 fn check_pixels(bytes: &[u8], at: usize, pixels: usize) -> Count
-    ensures { λ r. ⌜ r ≡ counted 0 (plain (drop at (now (bytes .entry))) pixels at) ⌝ }
+    ensures { λ r. ⌜ r ≡ counted 0 (plainAt (now (bytes .entry)) pixels at) ⌝ }
 {
     let mut black: usize = 0;
     let mut k: usize = 0;
