@@ -6,3 +6,5 @@ pub mod Sizes
 pub mod Headers
 pub mod Plain
 pub mod Counting
+pub mod Writing
+pub mod Pictures

@@ -1,6 +1,6 @@
 -- Laws of plain pixels: one byte more. Assumes nothing.
 use mathlib.Core.Path.{_≡_, refl, sym, _∙_, ap}
-use mathlib.Core.Bool.{true, false}
+use mathlib.Core.Bool.{Bool, true, false, cond}
 use mathlib.Core.List.{List, [], _∷_}
 use Prim.Native.Nat.{ℕ, zero, suc, _+_, _≤_, _<_}
 use native.Mathlib.Numerals.{add-one}
@@ -19,6 +19,15 @@ module _ (bytes : List ℕ) (i : ℕ) (outside : length bytes ≤ i) where
 
   pub complete : plainAt bytes 0 i ≡ pixels []
   complete = ap (λ l. plain l 0 i) (drop-of-length-le bytes outside)
+
+-- no pixel is left behind the last
+pub none-left : (l : List ℕ) (i : ℕ) (m : List Bool) → plain l 0 i ≡ pixels m → m ≡ []
+none-left [] i m e = cc
+none-left (b ∷ l) i m e = by-space (whiteSpace b) e (none-left l (suc i) m)
+  where
+    by-space : (t : Bool) → cond t (plain l 0 (suc i)) (fault 25 i) ≡ pixels m → (plain l 0 (suc i) ≡ pixels m → m ≡ []) → m ≡ []
+    by-space true f g = g f
+    by-space false f g = absurd (let z : _≡_ {A = ℕ} 0 1 = cc in omega arith)
 
 -- ---- the byte at i, then those from i + 1 on
 module _ (bytes : List ℕ) (i : ℕ) (inside : i < length bytes) where

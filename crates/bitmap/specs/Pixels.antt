@@ -42,3 +42,7 @@ abbrev pub black : ℕ → ℕ → List Bool → List Point
 black width k [] = []
 black width k (true ∷ l) = pixelPoint width k ∷ black width (suc k) l
 black width k (false ∷ l) = black width (suc k) l
+
+abbrev pub blackIn : ℕ → Raster → List Point
+blackIn width (pixels l) = black width 0 l
+blackIn width (fault number place) = []

@@ -2,8 +2,10 @@
 use mathlib.Core.Path.{_≡_}
 use mathlib.Core.Bool.{Bool, true, false}
 use mathlib.Core.List.{List, [], _∷_}
-use Prim.Native.Nat.{ℕ, suc, _+_, _≤_, _<_, min}
+use Prim.Native.Nat.{ℕ, suc, _+_, _*_, _≤_, _<_, min}
 use lib.ListN.{length, getD}
+use lib.IntN.{ℤ}
+use Rattle.lattice.specs.Point.{most}
 use Rattle.bitmap.specs.declared.Run.{Run}
 use Rattle.bitmap.specs.declared.Part.{Part}
 use Rattle.bitmap.specs.declared.Part.the-variants as parts
@@ -15,7 +17,7 @@ use Rattle.bitmap.specs.declared.Count.{Count}
 use Rattle.bitmap.specs.declared.Count.the-variants as counts
 use Rattle.bitmap.specs.Bytes.{whiteSpace, hash, digit, Placed, readAt}
 use Rattle.bitmap.specs.Header.{behind, size as sizeOf, greatestSize, sizeThen}
-use Rattle.bitmap.specs.Pixels.{Raster, pixels, fault, onto, plainAt}
+use Rattle.bitmap.specs.Pixels.{Raster, pixels, fault, onto, plainAt, blackIn}
 
 -- ---- the header
 -- no comment begins at the place
@@ -63,3 +65,11 @@ blacks (false ∷ l) = blacks l
 abbrev pub counted : ℕ → Raster → Count
 counted c (pixels l) = counts.Black (c + blacks l)
 counted c (fault number place) = counts.Fault number place
+
+-- a raster with no fault and few enough black pixels, of a size in range, and a list with room for the most points
+pub record Writable (raster : Raster) (width all : ℕ) (list : List ℤ) : Type 0 where
+  pub sound : (l : List Bool) × (raster ≡ pixels l)
+  pub few : length (blackIn width raster) ≤ most
+  pub wide : 1 ≤ width
+  pub small : all ≤ greatestSize * greatestSize
+  pub room : 2 * most ≤ length list

@@ -4,11 +4,12 @@ ghost use mathlib.Core.Bool.{true};
 ghost use Prim.Native.Nat.{ℕ, _+_, _*_, _-_, _≤_, _<_, suc, min};
 ghost use lib.ListN.{length, getD, drop};
 ghost use lib.Dec.{eqb};
+ghost use Rattle.lattice.specs.Room.{holding};
 ghost use Rattle.bitmap.specs.Bytes.{whiteSpace, hash, readIn, readAt};
 ghost use Rattle.bitmap.specs.Header.{starts, behind, inSize, greatestSize, headerOf};
-ghost use Rattle.bitmap.specs.Pixels.{plainAt};
-ghost use Rattle.bitmap.specs.Picture.{beginsP1, PicturePromise};
-ghost use Rattle.bitmap.specs.Steps.{Settled, Leads, RunAt, Sized, Skips, Fetches, counted};
+ghost use Rattle.bitmap.specs.Pixels.{plainAt, blackIn};
+ghost use Rattle.bitmap.specs.Picture.{refused as refusedOf, beginsP1, answerOf, PicturePromise};
+ghost use Rattle.bitmap.specs.Steps.{Settled, Leads, RunAt, Sized, Skips, Fetches, counted, Writable};
 
 // The longest file, the greatest width and height, and the numbers that the list has room for.
 pub const LONGEST: usize = 65536;
@@ -275,4 +276,96 @@ fn check_pixels(bytes: &[u8], at: usize, pixels: usize) -> Count
         return Count::Fault(25, end);
     }
     Count::Black(black)
+}
+
+// The black pixels as points, at the front of the list.
+fn write_points(bytes: &[u8], at: usize, width: usize, pixels: usize, list: &mut [i32])
+    requires { ⌜ Writable (plainAt (now bytes) pixels at) width pixels (now list) ⌝ }
+    ensures { λ _. ⌜ now (list .exit) ≡ holding (blackIn width (plainAt (now (bytes .entry)) pixels at)) (now (list .entry)) ⌝ }
+{
+    let mut n: usize = 0;
+    let mut k: usize = 0;
+    let mut i = at;
+    while k < pixels {
+        match fetch(bytes, i) {
+            Pixel::Black(next) => {
+                list[2 * n] = (k % width) as i32;
+                list[2 * n + 1] = (k / width) as i32;
+                n += 1;
+                k += 1;
+                i = next;
+            }
+            Pixel::White(next) => {
+                k += 1;
+                i = next;
+            }
+            Pixel::Fault(_, _) => {
+                return;
+            }
+        }
+    }
+}
+
+// Whether the file begins with P1.
+fn begins(bytes: &[u8]) -> bool
+    ensures { λ r. ⌜ r ≡ beginsP1 (now (bytes .entry)) ⌝ }
+{
+    if bytes.len() < 2 {
+        return false;
+    }
+    if bytes[0] == b'P' {
+        return bytes[1] == b'1';
+    }
+    false
+}
+
+// The answer for a declined picture.
+fn refused(number: u32, place: usize) -> Picture
+    ensures { λ r. ⌜ r ≡ answerOf (refusedOf number place) ⌝ }
+{
+    Picture {
+        number,
+        place,
+        points: 0,
+        width: 0,
+        height: 0,
+    }
+}
+
+// A plain bitmap's black pixels, written to the front of the list in row order; or why it is declined.
+pub fn read(bytes: &[u8], list: &mut [i32; ROOM]) -> Picture
+    ensures { λ r. ⌜ PicturePromise (now (bytes .entry)) (now (list .entry)) r (now (list .exit)) ⌝ }
+{
+    if LONGEST < bytes.len() {
+        return refused(20, LONGEST);
+    }
+    if begins(bytes) {
+        match check_header(bytes) {
+            Header::Sound { width, height, at } => {
+                let pixels = width * height;
+                match check_pixels(bytes, at, pixels) {
+                    Count::Black(points) => {
+                        if packed::MOST < points {
+                            return refused(2, 0);
+                        }
+                        write_points(bytes, at, width, pixels, list);
+                        return Picture {
+                            number: 0,
+                            place: 0,
+                            points,
+                            width,
+                            height,
+                        };
+                    }
+                    Count::Fault(number, place) => {
+                        return refused(number, place);
+                    }
+                }
+            }
+            Header::Bad(place) => {
+                return refused(22, place);
+            }
+        }
+    }
+    refused(21, 0)
 }
