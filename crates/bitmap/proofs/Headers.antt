@@ -1,20 +1,33 @@
 -- Laws of a header part by part: white space and a size, then the rest; and the sizes of a sound header. Assumes nothing.
 use mathlib.Core.Path.{_≡_, refl, sym, _∙_, ap, subst}
 use mathlib.Core.Bool.{Bool, true, false, false≢true, _&&_}
-use mathlib.Core.List.{List, [], _∷_}
-use Prim.Native.Nat.{ℕ, suc, _+_, _≤_, _<_, min}
+use mathlib.Core.List.{List}
+use Prim.Native.Nat.{ℕ, suc, _+_, _≤_, min}
 use native.Mathlib.Numerals.{add-one}
 use native.Mathlib.Omega.{arith}
 use borrow.Author.Tests.{leb-true, le-leb, lt-leb}
 use lib.Dec.{leb}
-use lib.ListN.{length, getD}
+use lib.ListN.{length}
 use Rattle.lattice.proofs.Lists.{either}
 use Rattle.lattice.proofs.Places.{lt-or-le}
 use Rattle.bitmap.specs.declared.Header.{Header}
 use Rattle.bitmap.specs.declared.Header.the-variants.{Sound, Bad}
 use Rattle.bitmap.specs.declared.Run.{Run}
 use Rattle.bitmap.specs.Bytes.{whiteSpace, digit, Placed, readAt}
-use Rattle.bitmap.specs.Header.{starts, behind, size, greatestSize, inSize, placeIn, unless, broken, sizeThen, afterHeight, afterWidth, headerOf}
+use Rattle.bitmap.specs.Header.{
+  starts,
+  behind,
+  size,
+  greatestSize,
+  inSize,
+  placeIn,
+  unless,
+  broken,
+  sizeThen,
+  afterHeight,
+  afterWidth,
+  headerOf,
+}
 use Rattle.bitmap.specs.Steps.{Settled, Leads, RunAt}
 use Rattle.bitmap.proofs.Reading.{read-end, read-byte}
 use Rattle.bitmap.proofs.Sizes.{limit}

@@ -8,3 +8,7 @@ pub mod Plain
 pub mod Counting
 pub mod Writing
 pub mod Pictures
+pub mod Points
+pub mod Pinned
+pub mod Accepted
+pub mod Example

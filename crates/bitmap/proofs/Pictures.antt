@@ -9,7 +9,7 @@ use borrow.Author.Tests.{lt-ltb, le-ltb}
 use lib.Dec.{eqb}
 use lib.ListN.{length}
 use lib.IntN.{ℤ}
-use Rattle.lattice.specs.Point.{Point, most}
+use Rattle.lattice.specs.Point.{most}
 use Rattle.lattice.proofs.Lists.{either}
 use Rattle.lattice.proofs.Places.{lt-or-le}
 use Rattle.bitmap.specs.declared.Count.the-variants as counts
@@ -17,19 +17,7 @@ use Rattle.bitmap.specs.declared.Header.the-variants.{Sound, Bad}
 use Rattle.bitmap.specs.declared.Picture.{Picture}
 use Rattle.bitmap.specs.Header.{greatestSize, headerOf}
 use Rattle.bitmap.specs.Pixels.{Raster, pixels, fault, plainAt, black, blackIn}
-use Rattle.bitmap.specs.Picture.{
-  Reading,
-  picture,
-  refused,
-  longest,
-  beginsP1,
-  rastered,
-  headed,
-  readingOf,
-  answerOf,
-  listAfter,
-  PicturePromise,
-}
+use Rattle.bitmap.specs.Picture.{Reading, picture, refused, longest, beginsP1, rastered, headed, readingOf, answerOf, listAfter, PicturePromise}
 use Rattle.bitmap.specs.Steps.{blacks, counted, Writable}
 use Rattle.bitmap.proofs.Headers.{sound-sizes}
 
@@ -104,7 +92,8 @@ module _ (width height : ℕ) (r : Raster) where
     a-picture h =
         let p = counted-pixels r c e in
         let g : length (black width 0 (p .0)) ≤ most = omega (arith, black-length width 0 (p .0), p .2) in
-        ap (rastered width height) (p .1) ∙ rw (le-ltb most (length (black width 0 (p .0))) g) (ap (λ q. picture width height (blackIn width q)) (sym (p .1)))
+        ap (rastered width height) (p .1) ∙ rw (le-ltb most (length (black width 0 (p .0))) g)
+        (ap (λ q. picture width height (blackIn width q)) (sym (p .1)))
 
 -- ---- what is asked to write the points
 pub pixel-count : (bytes : List ℕ) (width height at : ℕ) → headerOf bytes ≡ Sound width height at → width * height ≤ greatestSize * greatestSize

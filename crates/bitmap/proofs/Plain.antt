@@ -1,5 +1,5 @@
 -- Laws of plain pixels: one byte more. Assumes nothing.
-use mathlib.Core.Path.{_≡_, refl, sym, _∙_, ap}
+use mathlib.Core.Path.{_≡_, _∙_, ap}
 use mathlib.Core.Bool.{Bool, true, false, cond}
 use mathlib.Core.List.{List, [], _∷_}
 use Prim.Native.Nat.{ℕ, zero, suc, _+_, _≤_, _<_}
@@ -9,7 +9,7 @@ use borrow.Author.Tests.{ne-eqb}
 use lib.ListN.{length, getD, drop, drop-of-length-le}
 use lib.Seq.{drop-cons}
 use Rattle.bitmap.specs.Bytes.{whiteSpace}
-use Rattle.bitmap.specs.Pixels.{Raster, pixels, fault, onto, plain, plainAt}
+use Rattle.bitmap.specs.Pixels.{pixels, fault, onto, plain, plainAt}
 use Rattle.bitmap.specs.Steps.{Skips}
 
 -- ---- past the end

@@ -1,14 +1,14 @@
 -- Laws of the bytes of a header as they are read: one byte more, outside a comment and in one. Assumes nothing.
-use mathlib.Core.Path.{_≡_, refl, sym, _∙_, ap}
-use mathlib.Core.Bool.{Bool, true, false, cond}
+use mathlib.Core.Path.{_≡_, sym, _∙_, ap}
+use mathlib.Core.Bool.{Bool, true, false}
 use mathlib.Core.List.{List, [], _∷_}
-use Prim.Native.Nat.{ℕ, suc, _+_, _≤_, _<_}
+use Prim.Native.Nat.{ℕ, _+_, _≤_, _<_}
 use native.Mathlib.Numerals.{add-one}
 use native.Mathlib.Omega.{arith}
 use borrow.Author.Tests.{eq-eqb, ne-eqb}
 use lib.ListN.{length, getD, drop, drop-of-length-le}
 use lib.Seq.{drop-cons}
-use Rattle.bitmap.specs.Bytes.{lineEnd, hash, Placed, readIn, readAt}
+use Rattle.bitmap.specs.Bytes.{lineEnd, hash, readIn, readAt}
 use Rattle.bitmap.specs.Steps.{Leads}
 use Rattle.bitmap.proofs.Tests.{Ends, line-end, line-end-no-hash, not-line-end}
 

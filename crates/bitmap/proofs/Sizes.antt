@@ -1,6 +1,5 @@
 -- Laws of the loop that reads the digits of a size, whose value stops growing one above the greatest size. Assumes nothing.
 use mathlib.Core.Path.{_≡_, refl, sym, _∙_, ap}
-use mathlib.Core.Logic.{_⊎_}
 use mathlib.Core.Bool.{Bool, true, false, cond}
 use mathlib.Core.List.{List, [], _∷_}
 use Prim.Native.Nat.{ℕ, suc, _+_, _*_, _-_, _≤_, _<_, min}
@@ -8,15 +7,12 @@ use native.Mathlib.Omega.{arith}
 use borrow.Author.Tests.{eqb-true, eqb-false}
 use lib.Dec.{eqb}
 use lib.ListN.{length, getD, drop}
-use Rattle.lattice.proofs.Lists.{either}
-use Rattle.lattice.proofs.Places.{lt-or-le}
-use Rattle.bitmap.specs.declared.Run.{Run}
 use Rattle.bitmap.specs.Bytes.{lineEnd, hash, digit, Placed, readIn, readAt}
 use Rattle.bitmap.specs.Header.{starts, behind, decimal, size as sizeOf, greatestSize}
 use Rattle.bitmap.specs.Steps.{RunAt}
 use Rattle.bitmap.proofs.Reading.{read-byte, comment-begins}
 use Rattle.bitmap.proofs.Tests.{is-digit, line-end-no-digit, ends-of}
-use Rattle.bitmap.proofs.Parts.{behind-stops, behind-goes, starts-byte, starts-end}
+use Rattle.bitmap.proofs.Parts.{behind-stops, behind-goes, starts-byte}
 
 abbrev pub limit : ℕ
 limit = suc greatestSize

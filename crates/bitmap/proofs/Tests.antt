@@ -1,12 +1,12 @@
 -- White space, line ends, digits and # as tests on bytes: what a comparison that came out true or false says of them. Assumes nothing.
-use mathlib.Core.Path.{_≡_, refl, sym, _∙_, ap, subst}
-use mathlib.Core.Bool.{Bool, true, false, _&&_, _||_}
+use mathlib.Core.Path.{_≡_, refl}
+use mathlib.Core.Bool.{Bool, true, false, _||_}
 use mathlib.Core.Logic.{_⊎_, inl, inr}
 use Prim.Native.Nat.{ℕ, _≤_, _<_}
 use native.Mathlib.Omega.{arith}
-use lib.Dec.{leb, eqb}
+use lib.Dec.{eqb}
 use borrow.Author.Tests.{eqb-true, ne-eqb, le-leb, lt-leb}
-use Rattle.bitmap.specs.Bytes.{whiteSpace, lineEnd, hash, digit}
+use Rattle.bitmap.specs.Bytes.{lineEnd, hash, digit}
 
 -- LF or CR
 abbrev pub Ends : ℕ → Type 0

@@ -1,11 +1,10 @@
 // Plain bitmaps: the bytes of a picture, checked, and its black pixels as points.
 ghost use mathlib.Core.Path.{_≡_};
 ghost use mathlib.Core.Bool.{true};
-ghost use Prim.Native.Nat.{ℕ, _+_, _*_, _-_, _≤_, _<_, suc, min};
-ghost use lib.ListN.{length, getD, drop};
-ghost use lib.Dec.{eqb};
+ghost use Prim.Native.Nat.{_+_, _*_, _-_, _≤_, _<_, suc, min};
+ghost use lib.ListN.{length, drop};
 ghost use Rattle.lattice.specs.Room.{holding};
-ghost use Rattle.bitmap.specs.Bytes.{whiteSpace, hash, readIn, readAt};
+ghost use Rattle.bitmap.specs.Bytes.{whiteSpace, readIn, readAt};
 ghost use Rattle.bitmap.specs.Header.{starts, behind, inSize, greatestSize, headerOf};
 ghost use Rattle.bitmap.specs.Pixels.{plainAt, blackIn};
 ghost use Rattle.bitmap.specs.Picture.{refused as refusedOf, beginsP1, answerOf, PicturePromise};

@@ -1,15 +1,11 @@
+-- `bitmap::begins` meets its contract: the two tests are those of the definition. Assumes nothing.
 use borrow.Author.Needs.{needs}
-use Rattle.bitmap.proofs.begins.Statement.{statement}
-use Rattle.bitmap.proofs.begins.Tie as tie
-use Rattle.bitmap.proofs.begins.Reads as reads
-use Rattle.bitmap.proofs.begins.Lts as lts
-use mathlib.Core.Path.{_≡_, sym, _∙_}
-use Prim.Native.Nat.{_<_, _≤_}
 use borrow.Author.Tests.{eq-eqb, ne-eqb}
 use denote.Ref.{now}
 use lib.ListN.{getD}
 use Rattle.bitmap.proofs.Pictures.{short}
-
+use Rattle.bitmap.proofs.begins.Statement.{statement}
+use Rattle.bitmap.proofs.begins.Tie as tie
 
 returns : tie.Need-returns
 returns c = short (now (c .before .args .bytes)) (c .if1 .taken)

@@ -1,14 +1,11 @@
-use Rattle.bitmap.proofs.blanks.Statement.{statement}
-use Rattle.bitmap.proofs.blanks.Tie as tie
-use Rattle.bitmap.proofs.blanks.Reads as reads
-use Rattle.bitmap.proofs.blanks.Lts as lts
-use Rattle.bitmap.proofs.white_space.Reads as white-space-reads
-use Prim.Native.Nat.{ℕ, _≤_, _<_, _-_}
-use mathlib.Core.Path.{_≡_, refl, sym, _∙_}
+-- `bitmap::blanks` meets its contract: a turn of the loop passes one white space more. Assumes nothing.
+use Prim.Native.Nat.{_-_}
+use mathlib.Core.Path.{refl, sym, _∙_}
 use native.Mathlib.Omega.{arith}
 use lib.ListN.{length}
 use Rattle.bitmap.proofs.Plain.{Ignoring, ignoring-more, ignoring-stops}
-
+use Rattle.bitmap.proofs.blanks.Statement.{statement}
+use Rattle.bitmap.proofs.blanks.Tie as tie
 
 abbrev Inv-loop : tie.InvT-loop
 Inv-loop bytes at i₀ i = Ignoring bytes at i

@@ -1,14 +1,8 @@
-use borrow.Author.Needs.{needs}
-use Rattle.bitmap.proofs.check_header.Statement.{statement}
-use Rattle.bitmap.proofs.check_header.Tie as tie
-use Rattle.bitmap.proofs.check_header.Reads as reads
-use Rattle.bitmap.proofs.check_header.Lts as lts
-use Rattle.bitmap.proofs.next.Reads as next-reads
-use Rattle.bitmap.proofs.sized.Reads as sized-reads
-use Rattle.bitmap.proofs.white_at.Reads as white-at-reads
+-- `bitmap::check_header` meets its contract: the parts of the header follow one another as in the definition. Assumes nothing.
+use Prim.Native.Nat.{ℕ}
 use mathlib.Core.Path.{_≡_, sym, _∙_, subst}
 use mathlib.Core.List.{List}
-use Prim.Native.Nat.{ℕ}
+use borrow.Author.Needs.{needs}
 use denote.Ref.{now}
 use Rattle.bitmap.specs.declared.Header.{Header}
 use Rattle.bitmap.specs.declared.Part.the-variants as parts
@@ -16,7 +10,8 @@ use Rattle.bitmap.specs.Bytes.{readAt}
 use Rattle.bitmap.specs.Header.{afterHeight, afterWidth, headerOf}
 use Rattle.bitmap.specs.Steps.{Sized}
 use Rattle.bitmap.proofs.Headers.{no-end, an-end}
-
+use Rattle.bitmap.proofs.check_header.Statement.{statement}
+use Rattle.bitmap.proofs.check_header.Tie as tie
 
 sized-requires : tie.Need-sized-requires
 sized-requires c κs = search needs
@@ -37,7 +32,6 @@ behind c = afterWidth (bytes (c .before .before)) (c .width .given .0 .0) (readA
 width-then : (c : tie.After-width) → headerOf (bytes (c .before .before)) ≡ behind c
 width-then c = width-found c .0 (afterWidth (bytes (c .before .before)))
 
-
 sized-requires-2 : tie.Need-sized-requires-2
 sized-requires-2 c κs = width-found (c .before) .1
 
@@ -52,10 +46,10 @@ height-found c = let w = c .before .before .before .before in
 
 height-then : (c : tie.After-height) → let w = c .before .before .before .before in
     headerOf (bytes (w .before .before))
-    ≡ afterHeight (bytes (w .before .before)) (w .width .given .0 .0) (c .height .given .0 .0) (readAt (bytes (w .before .before)) (c .height .given .0 .1 .0))
+    ≡ afterHeight (bytes (w .before .before)) (w .width .given .0 .0) (c .height .given .0 .0)
+    (readAt (bytes (w .before .before)) (c .height .given .0 .1 .0))
 height-then c = let w = c .before .before .before .before in
     width-then w ∙ height-found c .0 (afterHeight (bytes (w .before .before)) (w .width .given .0 .0))
-
 
 next-requires : tie.Need-next-requires
 next-requires c κs = height-found (c .before) .1
@@ -89,7 +83,8 @@ returns-3 c = let p = c .before in
 
 returns-4 : tie.Need-returns-4
 returns-4 c = let p = c .before in
-    sym (subst (Sized (bytes (p .before .before)) 2) (p .place2 .given .1) (p .before .before .sized .ensures) (afterWidth (bytes (p .before .before))))
+    sym (subst (Sized (bytes (p .before .before)) 2) (p .place2 .given .1) (p .before .before .sized .ensures)
+    (afterWidth (bytes (p .before .before))))
 
 pub check-header-spec : {M : Type 1} → statement M
 check-header-spec =

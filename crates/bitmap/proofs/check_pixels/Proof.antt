@@ -1,21 +1,16 @@
-use Rattle.bitmap.proofs.check_pixels.Statement.{statement}
-use Rattle.bitmap.proofs.check_pixels.Tie as tie
-use Rattle.bitmap.proofs.check_pixels.Reads as reads
-use Rattle.bitmap.proofs.check_pixels.Lts as lts
-use Rattle.bitmap.proofs.blanks.Reads as blanks-reads
-use Rattle.bitmap.proofs.fetch.Reads as fetch-reads
-use Prim.Native.Nat.{ℕ, suc, _≤_, _<_, _+_, _-_}
-use mathlib.Core.Path.{_≡_, refl, sym, _∙_, subst}
-use mathlib.Core.List.{List}
+-- `bitmap::check_pixels` meets its contract: a turn of the loop passes one pixel more. Assumes nothing.
+use Prim.Native.Nat.{ℕ, _-_}
+use mathlib.Core.Path.{_≡_, _∙_, subst}
 use native.Mathlib.Omega.{arith}
+use native.Mathlib.Nat.{add-zero}
 use denote.Ref.{now}
 use Rattle.bitmap.specs.Pixels.{Raster, plainAt}
 use Rattle.bitmap.specs.declared.Count.the-variants as counts
 use Rattle.bitmap.specs.Steps.{Fetches, counted}
-use native.Mathlib.Nat.{add-zero}
 use Rattle.bitmap.proofs.Plain.{complete, left-over}
 use Rattle.bitmap.proofs.Counting.{Counting, counting-none, counting-black, counting-white, counting-fault, counting-ends}
-
+use Rattle.bitmap.proofs.check_pixels.Statement.{statement}
+use Rattle.bitmap.proofs.check_pixels.Tie as tie
 
 abbrev Inv-loop : tie.InvT-loop
 Inv-loop bytes at pixels black₀ k₀ i₀ black k i = Counting (plainAt bytes) at pixels black k i
@@ -44,7 +39,6 @@ loop-less c = omega arith
 -- the raster of the file, and what is fetched in a turn
 abbrev raster : tie.At-loop Inv-loop μ-loop → ℕ → ℕ → Raster
 raster c = plainAt (now (c .before .before .args .bytes))
-
 
 loop-again : tie.Need-loop-again Inv-loop μ-loop
 loop-again c = let f = c .before .before .before in

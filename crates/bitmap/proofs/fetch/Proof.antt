@@ -1,13 +1,10 @@
+-- `bitmap::fetch` meets its contract: the byte that is found decides as in the definition. Assumes nothing.
+use Prim.Native.Nat.{suc}
+use mathlib.Core.Path.{_∙_}
 use borrow.Author.Needs.{needs}
+use Rattle.bitmap.proofs.Plain.{early, black-pixel, white-pixel, bad-byte}
 use Rattle.bitmap.proofs.fetch.Statement.{statement}
 use Rattle.bitmap.proofs.fetch.Tie as tie
-use Rattle.bitmap.proofs.fetch.Reads as reads
-use Rattle.bitmap.proofs.fetch.Lts as lts
-use Rattle.bitmap.proofs.blanks.Reads as blanks-reads
-use mathlib.Core.Path.{_≡_, _∙_}
-use Prim.Native.Nat.{suc}
-use Rattle.bitmap.proofs.Plain.{early, black-pixel, white-pixel, bad-byte}
-
 
 blanks-requires : tie.Need-blanks-requires
 blanks-requires c κs = search needs

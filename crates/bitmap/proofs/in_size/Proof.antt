@@ -1,12 +1,7 @@
+-- `bitmap::in_size` meets its contract: the two tests are those of the definition. Assumes nothing.
+use borrow.Author.Tests.{le-leb, lt-leb}
 use Rattle.bitmap.proofs.in_size.Statement.{statement}
 use Rattle.bitmap.proofs.in_size.Tie as tie
-use Rattle.bitmap.proofs.in_size.Reads as reads
-use Rattle.bitmap.proofs.in_size.Lts as lts
-use mathlib.Core.Path.{_≡_}
-use Prim.Native.Nat.{_≤_}
-use native.Mathlib.Omega.{arith}
-use borrow.Author.Tests.{le-leb, lt-leb}
-
 
 returns : tie.Need-returns
 returns c = rw (lt-leb 1 _ (c .if1 .taken))

@@ -1,14 +1,12 @@
-use Rattle.bitmap.proofs.line_end.Statement.{statement}
-use Rattle.bitmap.proofs.line_end.Tie as tie
-use Rattle.bitmap.proofs.line_end.Reads as reads
-use Rattle.bitmap.proofs.line_end.Lts as lts
-use Prim.Native.Nat.{ℕ, _≤_, _<_, _-_}
-use mathlib.Core.Path.{_≡_, refl}
+-- `bitmap::line_end` meets its contract: a turn of the loop passes one byte more of the comment. Assumes nothing.
+use Prim.Native.Nat.{_-_}
+use mathlib.Core.Path.{refl}
 use mathlib.Core.Logic.{inl, inr}
 use native.Mathlib.Omega.{arith}
 use lib.ListN.{length}
 use Rattle.bitmap.proofs.Reading.{Commenting, commenting-more, commenting-ends, commenting-cut}
-
+use Rattle.bitmap.proofs.line_end.Statement.{statement}
+use Rattle.bitmap.proofs.line_end.Tie as tie
 
 abbrev Inv-loop : tie.InvT-loop
 Inv-loop bytes at i₀ i = Commenting bytes at i

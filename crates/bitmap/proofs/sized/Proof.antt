@@ -1,20 +1,13 @@
-use borrow.Author.Needs.{needs}
-use Rattle.bitmap.proofs.sized.Statement.{statement}
-use Rattle.bitmap.proofs.sized.Tie as tie
-use Rattle.bitmap.proofs.sized.Reads as reads
-use Rattle.bitmap.proofs.sized.Lts as lts
-use Rattle.bitmap.proofs.in_size.Reads as in-size-reads
-use Rattle.bitmap.proofs.next.Reads as next-reads
-use Rattle.bitmap.proofs.size_at.Reads as size-at-reads
-use Rattle.bitmap.proofs.skip.Reads as skip-reads
-use Rattle.bitmap.proofs.white_at.Reads as white-at-reads
+-- `bitmap::sized` meets its contract: the white space and the digits behind it are those of the definition. Assumes nothing.
 use mathlib.Core.Path.{_≡_, sym, _∙_}
 use mathlib.Core.Bool.{true}
+use borrow.Author.Needs.{needs}
 use denote.Ref.{now}
 use Rattle.bitmap.specs.Bytes.{whiteSpace, readAt}
 use Rattle.bitmap.specs.Header.{starts}
 use Rattle.bitmap.proofs.Headers.{no-space, no-size, a-size}
-
+use Rattle.bitmap.proofs.sized.Statement.{statement}
+use Rattle.bitmap.proofs.sized.Tie as tie
 
 next-requires : tie.Need-next-requires
 next-requires c κs = search needs
@@ -35,11 +28,9 @@ in-size-requires c κs = search needs
 space : (c : tie.Then1) → starts whiteSpace (readAt (now (c .before .before .before .before .args .bytes)) (c .before .before .next .result)) ≡ true
 space c = sym (c .before .white-at .ensures) ∙ c .if1 .taken
 
-
 returns : tie.Need-returns
 returns c = let r = c .before .before in
-    let t = r .before .before in
-    (
+    let t = r .before .before in (
       λ rest. a-size _ _ _ (t .before .before .next .ensures) rest (space t) _ (r .before .skip .ensures) _ (r .size-at .ensures)
           (sym (c .before .in-size .ensures) ∙ c .if2 .taken),
       r .size-at .ensures .inside,

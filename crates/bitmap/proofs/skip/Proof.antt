@@ -1,19 +1,15 @@
-use Rattle.bitmap.proofs.skip.Statement.{statement}
-use Rattle.bitmap.proofs.skip.Tie as tie
-use Rattle.bitmap.proofs.skip.Reads as reads
-use Rattle.bitmap.proofs.skip.Lts as lts
-use Rattle.bitmap.proofs.next.Reads as next-reads
-use Rattle.bitmap.proofs.white_at.Reads as white-at-reads
-use Prim.Native.Nat.{ℕ, _≤_, _<_, _-_}
+-- `bitmap::skip` meets its contract: a turn of the loop skips one white space more. Assumes nothing.
+use Prim.Native.Nat.{_<_, _-_}
 use mathlib.Core.Path.{_≡_, sym, _∙_}
 use mathlib.Core.Bool.{true}
 use native.Mathlib.Omega.{arith}
-use lib.ListN.{length}
 use denote.Ref.{now}
+use lib.ListN.{length}
 use Rattle.bitmap.specs.Bytes.{whiteSpace, readAt}
 use Rattle.bitmap.specs.Header.{starts}
 use Rattle.bitmap.proofs.Parts.{starts-inside, Skipping, skipping-begins, skipping-more, skipping-ends}
-
+use Rattle.bitmap.proofs.skip.Statement.{statement}
+use Rattle.bitmap.proofs.skip.Tie as tie
 
 abbrev Inv-loop : tie.InvT-loop
 Inv-loop bytes at i₀ i = Skipping bytes at i
@@ -31,12 +27,12 @@ white-at-requires : tie.Need-white-at-requires Inv-loop μ-loop
 white-at-requires c κs = c .loop .inv .settled
 
 -- in a turn white space is read, so the file goes on
-white : (c : tie.Then1 Inv-loop μ-loop) → starts whiteSpace (readAt (now (c .before .before .before .before .before .args .bytes)) (c .before .before .loop .i)) ≡ true
+white : (c : tie.Then1 Inv-loop μ-loop)
+    → starts whiteSpace (readAt (now (c .before .before .before .before .before .args .bytes)) (c .before .before .loop .i)) ≡ true
 white c = sym (c .before .white-at .ensures) ∙ c .if1 .taken
 
 inside : (c : tie.Then1 Inv-loop μ-loop) → c .before .before .loop .i < length (now (c .before .before .before .before .before .args .bytes))
 inside c = starts-inside whiteSpace _ _ (white c)
-
 
 add-next : tie.Need-add-next Inv-loop μ-loop
 add-next c = omega (arith, inside c)

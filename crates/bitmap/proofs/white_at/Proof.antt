@@ -1,13 +1,10 @@
+-- `bitmap::white_at` meets its contract: the byte at the place is the next that is read. Assumes nothing.
+use mathlib.Core.Path.{sym, _∙_}
 use borrow.Author.Needs.{needs}
-use Rattle.bitmap.proofs.white_at.Statement.{statement}
-use Rattle.bitmap.proofs.white_at.Tie as tie
-use Rattle.bitmap.proofs.white_at.Reads as reads
-use Rattle.bitmap.proofs.white_at.Lts as lts
-use Rattle.bitmap.proofs.white_space.Reads as white-space-reads
-use mathlib.Core.Path.{_≡_, sym, _∙_}
 use Rattle.bitmap.specs.Bytes.{whiteSpace}
 use Rattle.bitmap.proofs.Parts.{starts-byte, starts-end}
-
+use Rattle.bitmap.proofs.white_at.Statement.{statement}
+use Rattle.bitmap.proofs.white_at.Tie as tie
 
 shared-slice-read-white-space : tie.Need-shared-slice-read-white-space
 shared-slice-read-white-space c = search needs

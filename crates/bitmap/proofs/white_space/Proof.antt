@@ -1,9 +1,7 @@
+-- `bitmap::white_space` meets its contract: the four tests are those of the definition. Assumes nothing.
+use borrow.Author.Tests.{ne-eqb}
 use Rattle.bitmap.proofs.white_space.Statement.{statement}
 use Rattle.bitmap.proofs.white_space.Tie as tie
-use Rattle.bitmap.proofs.white_space.Reads as reads
-use Rattle.bitmap.proofs.white_space.Lts as lts
-use borrow.Author.Tests.{ne-eqb}
-
 
 returns : tie.Need-returns
 returns c = rw (c .if1 .taken)

@@ -1,12 +1,7 @@
-use Rattle.bitmap.proofs.write_points.Statement.{statement}
-use Rattle.bitmap.proofs.write_points.Tie as tie
-use Rattle.bitmap.proofs.write_points.Reads as reads
-use Rattle.bitmap.proofs.write_points.Lts as lts
-use Rattle.bitmap.proofs.fetch.Reads as fetch-reads
-use Prim.Native.Nat.{ℕ, suc, _≤_, _<_, _+_, _*_, _-_, _%_, _/_, _^_}
-use mathlib.Core.Path.{_≡_, refl, sym, _∙_, subst}
-use mathlib.Core.Bool.{true, false}
-use mathlib.Core.List.{List}
+-- `bitmap::write_points` meets its contract: a turn of the loop passes one pixel more, and writes it if it is black. Assumes nothing.
+use Prim.Native.Nat.{ℕ, suc, _<_, _-_, _%_, _/_, _^_}
+use mathlib.Core.Path.{_≡_, subst}
+use mathlib.Core.Bool.{true}
 use native.Mathlib.Nat.{mod-le, div-le-self}
 use native.Mathlib.Omega.{arith}
 use denote.Ref.{now}
@@ -18,7 +13,8 @@ use Rattle.bitmap.specs.Pixels.{Raster, onto, plainAt}
 use Rattle.bitmap.specs.Steps.{Fetches}
 use Rattle.bitmap.proofs.Plain.{none-left}
 use Rattle.bitmap.proofs.Writing.{Writing, writing-none, writing-black, writing-white, writing-fault, writing-length, writing-ends, room-left}
-
+use Rattle.bitmap.proofs.write_points.Statement.{statement}
+use Rattle.bitmap.proofs.write_points.Tie as tie
 
 abbrev Inv-loop : tie.InvT-loop
 Inv-loop bytes at width pixels list₀ n₀ k₀ i₀ list n k i = Writing (plainAt bytes) at pixels width list₀ list n k i
@@ -35,7 +31,8 @@ fetch-requires c κs = tt
 enum-known-next : tie.Need-enum-known-next Inv-loop μ-loop
 enum-known-next c = omega arith
 
--- the raster of the file, and that the list keeps its length; in a turn that fetches a black pixel: its number is small, it is fetched from the raster, and it finds room
+-- the raster of the file, and that the list keeps its length;
+-- in a turn that fetches a black pixel: its number is small, it is fetched from the raster, and it finds room
 abbrev raster : tie.At-loop Inv-loop μ-loop → ℕ → ℕ → Raster
 raster c = plainAt (now (c .before .before .args .bytes))
 
@@ -55,7 +52,6 @@ fetched c = subst (Fetches (raster (head c)) (head c .loop .i)) (c .next .given 
 room : (c : tie.After-next Inv-loop μ-loop) → head c .loop .n < most
 room c = room-left _ _ _ _ _ _ _ _ _ (head c .loop .inv) (c .before .before .before .loop-test .taken)
     (c .next .given .0 .0) (fetched c) (head c .before .before .pre .few)
-
 
 rem-list : tie.Need-rem-list Inv-loop μ-loop
 rem-list c = omega (arith, head (c .before) .before .before .pre .wide)
@@ -144,7 +140,8 @@ same-length-2 c = long (c .before)
 
 returns-2 : tie.Need-returns-2 Inv-loop μ-loop
 returns-2 c = let h = c .before in
-    writing-ends (raster h) _ _ _ _ _ _ _ _ (h .loop .inv) (c .loop-test .left) (none-left (drop (h .loop .i) (now (h .before .before .args .bytes))) (h .loop .i))
+    writing-ends (raster h) _ _ _ _ _ _ _ _ (h .loop .inv) (c .loop-test .left)
+    (none-left (drop (h .loop .i) (now (h .before .before .args .bytes))) (h .loop .i))
 
 pub write-points-spec : {M : Type 1} → statement M
 write-points-spec =
