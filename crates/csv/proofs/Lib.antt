@@ -1,0 +1,3 @@
+-- Laws of texts and of writing them.
+pub mod Putting
+pub mod Numbers
