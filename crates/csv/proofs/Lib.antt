@@ -1,3 +1,4 @@
 -- Laws of texts and of writing them.
 pub mod Putting
 pub mod Numbers
+pub mod Signs

@@ -3,6 +3,7 @@ ghost use mathlib.Core.Path.{_≡_};
 ghost use mathlib.Core.List.{[], _∷_};
 ghost use Prim.Native.Nat.{ℕ, suc, _≤_};
 ghost use lib.ListN.{length};
+ghost use lib.IntN.{natAbs};
 ghost use Rattle.lattice.specs.Point.{points as pointsOf};
 ghost use Rattle.csv.specs.Text.{natural as naturalOf, whole as wholeOf, line, pointLines, textOf, refusedText};
 ghost use Rattle.csv.specs.Written.{WritePromise, Puts};
@@ -49,6 +50,16 @@ fn natural(n: u64, out: &mut [u8], at: usize) -> usize
     put(digit, out, place)
 }
 
+// A number without its sign.
+fn magnitude(z: i32) -> u64
+    ensures { λ r. ⌜ r ≡ natAbs z ⌝ }
+{
+    if z < 0 {
+        return (0 - z as i64) as u64;
+    }
+    z as u64
+}
+
 // A whole number in decimal.
 fn whole(z: i32, out: &mut [u8], at: usize) -> usize
     requires { ⌜ at ≤ suc (length (now out)) ⌝ }
@@ -56,7 +67,7 @@ fn whole(z: i32, out: &mut [u8], at: usize) -> usize
 {
     if z < 0 {
         let place = put(b'-', out, at);
-        return natural((0 - z as i64) as u64, out, place);
+        return natural(magnitude(z), out, place);
     }
-    natural(z as u64, out, at)
+    natural(magnitude(z), out, at)
 }
