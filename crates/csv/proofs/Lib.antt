@@ -2,3 +2,5 @@
 pub mod Putting
 pub mod Numbers
 pub mod Signs
+pub mod Lines
+pub mod Promised

@@ -11,13 +11,13 @@ use Rattle.lattice.proofs.Places.{lt-or-le}
 use Rattle.csv.specs.Written.{Puts}
 
 -- ---- stores from a place on
-sets-append : (l : List ℕ) (i : ℕ) (a b : List ℕ) → sets l i (a ++ b) ≡ sets (sets l i a) (i + length a) b
+pub sets-append : (l : List ℕ) (i : ℕ) (a b : List ℕ) → sets l i (a ++ b) ≡ sets (sets l i a) (i + length a) b
 sets-append l i [] b = let e : i ≡ i + 0 = omega arith in ap (λ n. sets l n b) e
 sets-append l i (v ∷ a) b =
     let e : suc i + length a ≡ i + suc (length a) = omega arith in
     sets-append (set l i v) (suc i) a b ∙ ap (λ n. sets (sets (set l i v) (suc i) a) n b) e
 
-sets-out : (l : List ℕ) (i : ℕ) (a : List ℕ) → length l ≤ i → sets l i a ≡ l
+pub sets-out : (l : List ℕ) (i : ℕ) (a : List ℕ) → length l ≤ i → sets l i a ≡ l
 sets-out l i [] h = refl
 sets-out l i (v ∷ a) h = ap (λ m. sets m (suc i) a) (set-out l i v h) ∙ sets-out l (suc i) a (omega arith)
 

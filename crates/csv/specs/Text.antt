@@ -24,7 +24,7 @@ whole (negsuc n) = 45 ∷ natural (suc n)
 
 -- three fields with commas between them, ended by CR LF
 abbrev pub line : List ℕ → List ℕ → List ℕ → List ℕ
-line a b c = a ++ (44 ∷ []) ++ b ++ (44 ∷ []) ++ c ++ 13 ∷ 10 ∷ []
+line a b c = a ++ 44 ∷ (b ++ 44 ∷ (c ++ 13 ∷ 10 ∷ []))
 
 -- kind,x,y
 abbrev pub heading : List ℕ
@@ -51,7 +51,7 @@ pointLines kind (p ∷ l) = line kind (whole (p .x)) (whole (p .y)) ++ pointLine
 -- "a heading, each corner, each missing point, and a total line with the number of points and of missing points"
 abbrev pub textOf : List Point → List Point → ℕ → List ℕ
 textOf corners absent count =
-    heading ++ pointLines corner corners ++ pointLines missing absent ++ line total (natural count) (natural (length absent))
+    heading ++ (pointLines corner corners ++ (pointLines missing absent ++ line total (natural count) (natural (length absent))))
 
 -- "A declined picture gives one line and no heading: refused, number, place."
 abbrev pub refusedText : ℕ → ℕ → List ℕ
