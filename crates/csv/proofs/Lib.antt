@@ -4,3 +4,6 @@ pub mod Numbers
 pub mod Signs
 pub mod Lines
 pub mod Promised
+pub mod Pinned
+pub mod Sufficing
+pub mod Example

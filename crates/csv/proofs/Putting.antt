@@ -1,11 +1,11 @@
 -- Laws of bytes put one after the other into a room that may be too small. Assumes nothing.
 use mathlib.Core.Path.{_≡_, refl, sym, _∙_, ap}
 use mathlib.Core.List.{List, [], _∷_, _++_}
-use Prim.Native.Nat.{ℕ, suc, _+_, _≤_, _<_, min}
+use Prim.Native.Nat.{ℕ, suc, _+_, _≤_, _<_}
 use native.Mathlib.Numerals.{add-one}
 use native.Mathlib.Omega.{arith}
 use lib.ListN.{length, getD, take, set, length-append}
-use lib.Seq.{sets, length-sets, set-out, take-suc, take-all}
+use lib.Seq.{sets, length-sets, set-out, take-suc}
 use Rattle.lattice.proofs.Lists.{either}
 use Rattle.lattice.proofs.Places.{lt-or-le}
 use Rattle.csv.specs.Written.{Puts}

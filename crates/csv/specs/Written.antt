@@ -19,6 +19,10 @@ pub record WritePromise (text out : List ℕ) (answer : ℕ) (after : List ℕ) 
   pub answers : answer ≡ fitted text out
   pub stands : after ≡ written text out
 
+-- "It has room for 8,192 missing points."
+abbrev pub mostMissing : ℕ
+mostMissing = 8192
+
 -- a room that suffices for 4,096 corners and 8,192 missing points in range: 10 bytes of heading, 20 a corner, 21 a missing point, 17 of total
 abbrev pub room : ℕ
 room = 253979

@@ -2,7 +2,7 @@
 ghost use mathlib.Core.Path.{_≡_};
 ghost use mathlib.Core.Bool.{cond};
 ghost use mathlib.Core.List.{[], _∷_};
-ghost use Prim.Native.Nat.{ℕ, suc, _≤_};
+ghost use Prim.Native.Nat.{suc, _≤_};
 ghost use lib.ListN.{length};
 ghost use lib.Dec.{leb};
 ghost use lib.IntN.{natAbs};
@@ -131,14 +131,18 @@ fn fit(place: usize, room: usize) -> usize
 
 // The report of a picture: its corners, its missing points, how many points it has and how many are missing.
 pub fn write(corners: &[i32], missing: &[i32], points: usize, out: &mut [u8]) -> usize
-    ensures {
-        λ r. ⌜ WritePromise (textOf (pointsOf (now (corners .entry))) (pointsOf (now (missing .entry))) points) (now (out .entry)) r (now (out .exit)) ⌝
-    }
+    ensures { λ r. ⌜ WritePromise (textOf (pointsOf (now (corners .entry))) (pointsOf (now (missing .entry))) points) (now (out .entry)) r (now (out .exit)) ⌝ }
 {
     let heading = copy(b"kind,x,y\r\n", out, 0);
     let first = point_lines(b"corner", corners, out, heading);
     let second = point_lines(b"missing", missing, out, first);
-    let end = count_line(b"total", points as u64, (missing.len() / 2) as u64, out, second);
+    let end = count_line(
+        b"total",
+        points as u64,
+        (missing.len() / 2) as u64,
+        out,
+        second,
+    );
     fit(end, out.len())
 }
 

@@ -1,22 +1,19 @@
+-- `csv::natural` meets its contract: the last digit behind the others, which are fewer. Assumes nothing.
 use Prim.Native.Nat.{ℕ, _<_}
+use mathlib.Core.Path.{sym, subst}
+use native.Mathlib.Omega.{arith}
 use borrow.Fn.Kinds.{In}
 use borrow.Fn.PlainCycle.{Measures, is, falls, and}
+use denote.Ref.{now}
+use Rattle.csv.specs.Written.{Puts}
+use Rattle.csv.proofs.Putting.{puts-length, puts-place, puts-append}
+use Rattle.csv.proofs.Numbers.{natural-one, natural-more}
 use Rattle.csv.proofs.natural.Reads as natural
 use Rattle.csv.proofs.natural.Kinds as natural-kinds
 use Rattle.csv.proofs.+natural.Lts-natural as natural-lts
 use Rattle.csv.proofs.put.Reads as put-reads
 use Rattle.csv.proofs.+natural.{statement}
 use Rattle.csv.proofs.+natural.Tie.{close}
-use Prim.Native.Nat.{_/_, _%_, _+_, _≤_}
-use mathlib.Core.Path.{_≡_, sym, subst}
-use mathlib.Core.List.{[], _∷_, _++_}
-use native.Mathlib.Omega.{arith}
-use denote.Ref.{now}
-use Rattle.csv.specs.Text.{natural as naturalOf}
-use Rattle.csv.specs.Written.{Puts}
-use Rattle.csv.proofs.Putting.{puts-length, puts-place, puts-append}
-use Rattle.csv.proofs.Numbers.{natural-one, natural-more}
-
 
 abbrev μ-natural : Measures 1 natural-kinds.ps ℕ
 μ-natural κs a = a .0

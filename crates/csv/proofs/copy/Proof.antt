@@ -1,9 +1,5 @@
-use Rattle.csv.proofs.copy.Statement.{statement}
-use Rattle.csv.proofs.copy.Tie as tie
-use Rattle.csv.proofs.copy.Reads as reads
-use Rattle.csv.proofs.copy.Lts as lts
-use Rattle.csv.proofs.put.Reads as put-reads
-use Prim.Native.Nat.{_-_, _≤_}
+-- `csv::copy` meets its contract: a turn of the loop puts one byte more. Assumes nothing.
+use Prim.Native.Nat.{_-_}
 use mathlib.Core.Path.{subst}
 use native.Mathlib.Omega.{arith}
 use denote.Ref.{now}
@@ -11,7 +7,8 @@ use lib.ListN.{length, take}
 use lib.Seq.{take-all}
 use Rattle.csv.specs.Written.{Puts}
 use Rattle.csv.proofs.Putting.{puts-none, puts-length, puts-place, puts-byte}
-
+use Rattle.csv.proofs.copy.Statement.{statement}
+use Rattle.csv.proofs.copy.Tie as tie
 
 abbrev Inv-loop : tie.InvT-loop
 Inv-loop text out₀ at place₀ i₀ out place i = Puts out₀ at (take i text) place out

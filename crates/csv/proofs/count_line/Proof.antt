@@ -1,13 +1,8 @@
+-- `csv::count_line` meets its contract: the fields one after the other. Assumes nothing.
 use borrow.Author.Needs.{needs}
+use Rattle.csv.proofs.Lines.{puts-line}
 use Rattle.csv.proofs.count_line.Statement.{statement}
 use Rattle.csv.proofs.count_line.Tie as tie
-use Rattle.csv.proofs.count_line.Reads as reads
-use Rattle.csv.proofs.count_line.Lts as lts
-use Rattle.csv.proofs.copy.Reads as copy-reads
-use Rattle.csv.proofs.natural.Reads as natural-reads
-use Rattle.csv.proofs.put.Reads as put-reads
-use Rattle.csv.proofs.Lines.{puts-line}
-
 
 copy-requires : tie.Need-copy-requires
 copy-requires c κs = search needs

@@ -1,9 +1,7 @@
+-- `csv::fit` meets its contract: the test is that of the definition. Assumes nothing.
+use borrow.Author.Tests.{le-leb, lt-leb}
 use Rattle.csv.proofs.fit.Statement.{statement}
 use Rattle.csv.proofs.fit.Tie as tie
-use Rattle.csv.proofs.fit.Reads as reads
-use Rattle.csv.proofs.fit.Lts as lts
-use borrow.Author.Tests.{le-leb, lt-leb}
-
 
 returns : tie.Need-returns
 returns c = rw (le-leb _ _ (c .if1 .taken))

@@ -1,12 +1,9 @@
-use borrow.Author.Needs.{needs}
-use Rattle.csv.proofs.magnitude.Statement.{statement}
-use Rattle.csv.proofs.magnitude.Tie as tie
-use Rattle.csv.proofs.magnitude.Reads as reads
-use Rattle.csv.proofs.magnitude.Lts as lts
+-- `csv::magnitude` meets its contract: the machine reads the number back from its bits. Assumes nothing.
 use mathlib.Core.Path.{ap}
 use lib.IntN.{natAbs}
 use Rattle.csv.proofs.Signs.{back, widens, turned-fits, turned-natural, turned-magnitude, other-natural}
-
+use Rattle.csv.proofs.magnitude.Statement.{statement}
+use Rattle.csv.proofs.magnitude.Tie as tie
 
 cast-result : tie.Need-cast-result
 cast-result c = widens (c .before .args .z) (c .before .fits .z)

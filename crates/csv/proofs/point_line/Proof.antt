@@ -1,18 +1,13 @@
-use borrow.Author.Needs.{needs}
-use Rattle.csv.proofs.point_line.Statement.{statement}
-use Rattle.csv.proofs.point_line.Tie as tie
-use Rattle.csv.proofs.point_line.Reads as reads
-use Rattle.csv.proofs.point_line.Lts as lts
-use Rattle.csv.proofs.copy.Reads as copy-reads
-use Rattle.csv.proofs.put.Reads as put-reads
-use Rattle.csv.proofs.whole.Reads as whole-reads
+-- `csv::point_line` meets its contract: the fields one after the other. Assumes nothing.
 use mathlib.Core.Path.{subst}
+use borrow.Author.Needs.{needs}
 use denote.Ref.{now}
 use Rattle.csv.specs.Text.{whole as wholeOf, line}
 use Rattle.csv.specs.Written.{Puts}
 use Rattle.csv.proofs.Lines.{puts-line}
 use Rattle.csv.proofs.Signs.{back}
-
+use Rattle.csv.proofs.point_line.Statement.{statement}
+use Rattle.csv.proofs.point_line.Tie as tie
 
 copy-requires : tie.Need-copy-requires
 copy-requires c κs = search needs

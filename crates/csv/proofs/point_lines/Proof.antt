@@ -1,10 +1,6 @@
-use Rattle.csv.proofs.point_lines.Statement.{statement}
-use Rattle.csv.proofs.point_lines.Tie as tie
-use Rattle.csv.proofs.point_lines.Reads as reads
-use Rattle.csv.proofs.point_lines.Lts as lts
-use Rattle.csv.proofs.point_line.Reads as point-line-reads
-use Prim.Native.Nat.{ℕ, _-_, _*_, _+_, _≤_, _<_}
-use mathlib.Core.Path.{_≡_, sym, subst}
+-- `csv::point_lines` meets its contract: a turn of the loop puts the line of one point more. Assumes nothing.
+use Prim.Native.Nat.{_-_, _*_, _+_, _<_}
+use mathlib.Core.Path.{subst}
 use native.Mathlib.Omega.{arith}
 use denote.Ref.{now}
 use lib.ListN.{length, getD, take}
@@ -17,7 +13,8 @@ use Rattle.csv.specs.Written.{Puts}
 use Rattle.csv.proofs.Putting.{puts-none, puts-length, puts-place}
 use Rattle.csv.proofs.Lines.{puts-point}
 use Rattle.csv.proofs.Signs.{back}
-
+use Rattle.csv.proofs.point_lines.Statement.{statement}
+use Rattle.csv.proofs.point_lines.Tie as tie
 
 abbrev Inv-loop : tie.InvT-loop
 Inv-loop kind list out₀ at n place₀ i₀ out place i = Puts out₀ at (pointLines kind (take i (points list))) place out
@@ -61,7 +58,6 @@ loop-less c = omega arith
 -- in a turn there is a point
 inside : (c : tie.In-loop Inv-loop μ-loop) → c .before .loop .i < length (points (now (c .before .before .before .before .args .list)))
 inside c = omega (arith, points-length (now (c .before .before .before .before .args .list)), c .loop-test .taken)
-
 
 loop-again : tie.Need-loop-again Inv-loop μ-loop
 loop-again c = let line = c .before .before in

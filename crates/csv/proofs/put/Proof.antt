@@ -1,10 +1,8 @@
+-- `csv::put` meets its contract: the byte stands at its place or has none. Assumes nothing.
 use borrow.Author.Needs.{needs}
+use Rattle.csv.proofs.Putting.{put-inside, put-outside}
 use Rattle.csv.proofs.put.Statement.{statement}
 use Rattle.csv.proofs.put.Tie as tie
-use Rattle.csv.proofs.put.Reads as reads
-use Rattle.csv.proofs.put.Lts as lts
-use Rattle.csv.proofs.Putting.{put-inside, put-outside}
-
 
 slice-write-out : tie.Need-slice-write-out
 slice-write-out c = search needs

@@ -1,14 +1,10 @@
+-- `csv::refused` meets its contract: the line, from the front. Assumes nothing.
 use borrow.Author.Needs.{needs}
-use Rattle.csv.proofs.refused.Statement.{statement}
-use Rattle.csv.proofs.refused.Tie as tie
-use Rattle.csv.proofs.refused.Reads as reads
-use Rattle.csv.proofs.refused.Lts as lts
-use Rattle.csv.proofs.count_line.Reads as count-line-reads
-use Rattle.csv.proofs.fit.Reads as fit-reads
 use denote.Ref.{now}
 use Rattle.csv.specs.Text.{refusedText}
 use Rattle.csv.proofs.Promised.{promised}
-
+use Rattle.csv.proofs.refused.Statement.{statement}
+use Rattle.csv.proofs.refused.Tie as tie
 
 slice-aggregate-count-line : tie.Need-slice-aggregate-count-line
 slice-aggregate-count-line c = search needs

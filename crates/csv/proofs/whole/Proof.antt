@@ -1,20 +1,15 @@
-use borrow.Author.Needs.{needs}
-use Rattle.csv.proofs.whole.Statement.{statement}
-use Rattle.csv.proofs.whole.Tie as tie
-use Rattle.csv.proofs.whole.Reads as reads
-use Rattle.csv.proofs.whole.Lts as lts
-use Rattle.csv.proofs.magnitude.Reads as magnitude-reads
-use Rattle.csv.proofs.natural.Reads as natural-reads
-use Rattle.csv.proofs.put.Reads as put-reads
-use mathlib.Core.Path.{_≡_, sym, _∙_, ap, subst}
+-- `csv::whole` meets its contract: a minus sign and the magnitude. Assumes nothing.
+use mathlib.Core.Path.{sym, _∙_, ap, subst}
 use mathlib.Core.List.{_∷_}
+use borrow.Author.Needs.{needs}
 use denote.Ref.{now}
 use lib.IntN.{natAbs}
 use Rattle.csv.specs.Text.{natural as naturalOf}
 use Rattle.csv.specs.Written.{Puts}
-use Rattle.csv.proofs.Putting.{puts-length, puts-place, puts-append}
+use Rattle.csv.proofs.Putting.{puts-append}
 use Rattle.csv.proofs.Signs.{back, tested, whole-below, whole-other}
-
+use Rattle.csv.proofs.whole.Statement.{statement}
+use Rattle.csv.proofs.whole.Tie as tie
 
 put-requires : tie.Need-put-requires
 put-requires c κs = search needs

@@ -1,14 +1,7 @@
-use borrow.Author.Needs.{needs}
-use Rattle.csv.proofs.write.Statement.{statement}
-use Rattle.csv.proofs.write.Tie as tie
-use Rattle.csv.proofs.write.Reads as reads
-use Rattle.csv.proofs.write.Lts as lts
-use Rattle.csv.proofs.copy.Reads as copy-reads
-use Rattle.csv.proofs.count_line.Reads as count-line-reads
-use Rattle.csv.proofs.fit.Reads as fit-reads
-use Rattle.csv.proofs.point_lines.Reads as point-lines-reads
+-- `csv::write` meets its contract: the lines one after the other. Assumes nothing.
 use mathlib.Core.Path.{sym, subst}
 use mathlib.Core.List.{_++_}
+use borrow.Author.Needs.{needs}
 use denote.Ref.{now}
 use Rattle.lattice.specs.Point.{points}
 use Rattle.lattice.proofs.Numbers.{points-length}
@@ -16,7 +9,8 @@ use Rattle.csv.specs.Text.{natural, line, heading, corner, missing, tota
 use Rattle.csv.specs.Written.{Puts}
 use Rattle.csv.proofs.Putting.{puts-append}
 use Rattle.csv.proofs.Promised.{promised}
-
+use Rattle.csv.proofs.write.Statement.{statement}
+use Rattle.csv.proofs.write.Tie as tie
 
 slice-aggregate-copy : tie.Need-slice-aggregate-copy
 slice-aggregate-copy c = search needs
