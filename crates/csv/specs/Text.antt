@@ -5,7 +5,7 @@ use Prim.Native.Nat.{ℕ, zero, suc, _+_, _/_, _%_}
 use lib.Dec.{ltb}
 use lib.ListN.{length}
 use lib.IntN.{ℤ, pos, negsuc}
-use Rattle.lattice.specs.Point.{Point}
+use Rattle.lattice.specs.Point.{Point, points}
 
 -- the decimal digits of n, no more than k + 1 of them; n + 1 digits are always enough
 abbrev pub digits : ℕ → ℕ → List ℕ
@@ -52,6 +52,9 @@ pointLines kind (p ∷ l) = line kind (whole (p .x)) (whole (p .y)) ++ pointLine
 abbrev pub textOf : List Point → List Point → ℕ → List ℕ
 textOf corners absent count =
     heading ++ (pointLines corner corners ++ (pointLines missing absent ++ line total (natural count) (natural (length absent))))
+
+abbrev pub reportText : List ℤ → List ℤ → ℕ → List ℕ
+reportText corners absent count = textOf (points corners) (points absent) count
 
 -- "A declined picture gives one line and no heading: refused, number, place."
 abbrev pub refusedText : ℕ → ℕ → List ℕ

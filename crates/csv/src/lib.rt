@@ -7,7 +7,7 @@ ghost use lib.ListN.{length};
 ghost use lib.Dec.{leb};
 ghost use lib.IntN.{natAbs};
 ghost use Rattle.lattice.specs.Point.{points as pointsOf};
-ghost use Rattle.csv.specs.Text.{natural as naturalOf, whole as wholeOf, line, pointLines, textOf, refusedText};
+ghost use Rattle.csv.specs.Text.{natural as naturalOf, whole as wholeOf, line, pointLines, reportText, refusedText};
 ghost use Rattle.csv.specs.Written.{WritePromise, Puts};
 
 // A room that suffices for the report of a picture.
@@ -131,7 +131,7 @@ fn fit(place: usize, room: usize) -> usize
 
 // The report of a picture: its corners, its missing points, how many points it has and how many are missing.
 pub fn write(corners: &[i32], missing: &[i32], points: usize, out: &mut [u8]) -> usize
-    ensures { λ r. ⌜ WritePromise (textOf (pointsOf (now (corners .entry))) (pointsOf (now (missing .entry))) points) (now (out .entry)) r (now (out .exit)) ⌝ }
+    ensures { λ r. ⌜ WritePromise (reportText (now (corners .entry)) (now (missing .entry)) points) (now (out .entry)) r (now (out .exit)) ⌝ }
 {
     let heading = copy(b"kind,x,y\r\n", out, 0);
     let first = point_lines(b"corner", corners, out, heading);

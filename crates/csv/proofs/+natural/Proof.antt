@@ -89,7 +89,8 @@ natural-same-length-2 : (t : ℕ) → natural-lts.Need-same-length-2 (
   natural-below t,
   natural.Post,
 ) (natural-at t) natural.Post
-natural-same-length-2 t c = puts-length _ _ _ _ _ (puts-append _ _ _ _ _ (c .before .before .before .before .before .before .natural .ensures) _ _ _ (c .before .before .put2 .ensures))
+natural-same-length-2 t c = puts-length _ _ _ _ _
+    (puts-append _ _ _ _ _ (c .before .before .before .before .before .before .natural .ensures) _ _ _ (c .before .before .put2 .ensures))
 
 natural-returns-2 : (t : ℕ) → natural-lts.Need-returns-2 (
   put-reads.Asked,
