@@ -229,8 +229,8 @@ fn blanks(bytes: &[u8], at: usize) -> usize
     i
 }
 
-// How pixels are fetched: the next one from a place on.
-fn fetch(bytes: &[u8], at: usize) -> Pixel
+// The next pixel from a place on, behind white space.
+fn find(bytes: &[u8], at: usize) -> Pixel
     ensures { λ r. ⌜ Fetches (plainAt (now (bytes .entry))) at r ⌝ }
 {
     let i = blanks(bytes, at);
@@ -245,6 +245,22 @@ fn fetch(bytes: &[u8], at: usize) -> Pixel
         return Pixel::Fault(23, i);
     }
     Pixel::Fault(24, i)
+}
+
+// How pixels are fetched: the next one from a place on, which is most often the byte there.
+fn fetch(bytes: &[u8], at: usize) -> Pixel
+    ensures { λ r. ⌜ Fetches (plainAt (now (bytes .entry))) at r ⌝ }
+{
+    if at < bytes.len() {
+        let b = bytes[at];
+        if b == b'0' {
+            return Pixel::White(at + 1);
+        }
+        if b == b'1' {
+            return Pixel::Black(at + 1);
+        }
+    }
+    find(bytes, at)
 }
 
 // The pixels from a place on, checked and counted.
