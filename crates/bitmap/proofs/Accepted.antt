@@ -1,5 +1,6 @@
--- The points of an accepted picture are few, in range and strictly in row order, so that the calls over points accept them. Assumes nothing.
-use mathlib.Core.Path.{_≡_, refl, sym, _∙_, ap, subst}
+-- The points of an accepted picture are its black pixels, few, in range and strictly in row order, so that the calls over points accept
+-- them. Assumes nothing.
+use mathlib.Core.Path.{_≡_, refl, sym, _∙_, ap, subst₃}
 use mathlib.Core.Bool.{Bool, true, false, cond}
 use mathlib.Core.List.{List, [], _∷_}
 use Prim.Native.Nat.{ℕ, zero, suc, _*_, _≤_, _<_}
@@ -9,8 +10,8 @@ use lib.Dec.{eqb, ltb}
 use lib.ListN.{length, take, drop}
 use lib.Seq.{take-at}
 use lib.IntN.{ℤ}
-use Rattle.lattice.specs.Point.{Point, InRange, most, points, All, Pairs, Before}
-use Rattle.lattice.specs.Room.{numbers, holding}
+use Rattle.lattice.specs.Point.{Point, InRange, most, points, All, Pairs, Before, Lists}
+use Rattle.lattice.specs.Room.{numbers}
 use Rattle.lattice.proofs.Numbers.{numbers-length, points-numbers}
 use Rattle.bitmap.specs.declared.Header.{Header}
 use Rattle.bitmap.specs.declared.Header.the-variants.{Sound, Bad}
@@ -34,7 +35,7 @@ use Rattle.bitmap.specs.Picture.{
 use Rattle.bitmap.proofs.Headers.{sound-sizes}
 use Rattle.bitmap.proofs.Plain.{none-left}
 use Rattle.bitmap.proofs.Writing.{onto-pixels}
-use Rattle.bitmap.proofs.Points.{black-order, black-range}
+use Rattle.bitmap.proofs.Points.{BlackPixel, black-lists, black-range}
 
 -- ---- as many pixels as the header says
 pub plain-length : (l : List ℕ) (n i : ℕ) (m : List Bool) → plain l n i ≡ pixels m → length m ≡ n
@@ -58,19 +59,23 @@ plain-length (b ∷ l) (suc n) i m e =
     by-tests false false true f g h = one-more false f h
     by-tests false false false f g h = absurd (let z : _≡_ {A = ℕ} 0 1 = cc in omega arith)
 
--- ---- a refusal has a number, and a picture's points are as the calls over points want them
-pub record Drawn (l : List Point) : Type 0 where
+-- ---- a refusal has a number, and a picture's points are its black pixels, as the calls over points want them
+pub record Drawn (bytes : List ℕ) (width height : ℕ) (l : List Point) : Type 0 where
+  pub at : ℕ
+  pub colours : List Bool
+  pub header : headerOf bytes ≡ Sound width height at
+  pub raster : plainAt bytes (width * height) at ≡ pixels colours
+  pub lists : Lists (BlackPixel width colours) l
   pub few : length l ≤ most
   pub range : All InRange l
-  pub order : Pairs Before l
 
-abbrev pub Fair : Reading → Type 0
-Fair (picture width height l) = Drawn l
-Fair (refused number place) = 0 < number
+abbrev pub Fair : List ℕ → Reading → Type 0
+Fair bytes (picture width height l) = Drawn bytes width height l
+Fair bytes (refused number place) = 0 < number
 
-either-fair : (t : Bool) (a b : Reading) → (t ≡ true → Fair a) → (t ≡ false → Fair b) → Fair (cond t a b)
-either-fair true a b f g = f refl
-either-fair false a b f g = g refl
+either-fair : (bytes : List ℕ) (t : Bool) (a b : Reading) → (t ≡ true → Fair bytes a) → (t ≡ false → Fair bytes b) → Fair bytes (cond t a b)
+either-fair bytes true a b f g = f refl
+either-fair bytes false a b f g = g refl
 
 onto-numbered : (p : Bool) (r : Raster) → ((number place : ℕ) → r ≡ fault number place → 0 < number)
     → (number place : ℕ) → onto p r ≡ fault number place → 0 < number
@@ -99,26 +104,30 @@ fault-numbered (b ∷ l) (suc n) i number place e =
     by-tests false false true f g h = onto-numbered false (plain l n (suc i)) h number place f
     by-tests false false false f g h = let k : number ≡ 23 = cc in omega arith
 
-reading-fair : (bytes : List ℕ) → Fair (readingOf bytes)
+reading-fair : (bytes : List ℕ) → Fair bytes (readingOf bytes)
 reading-fair bytes =
-    either-fair (ltb longest (length bytes)) (refused 20 longest) (cond (beginsP1 bytes) (headed bytes (headerOf bytes)) (refused 21 0))
+    either-fair bytes (ltb longest (length bytes)) (refused 20 longest) (cond (beginsP1 bytes) (headed bytes (headerOf bytes)) (refused 21 0))
     (λ _. omega arith)
-    (λ _. either-fair (beginsP1 bytes) (headed bytes (headerOf bytes)) (refused 21 0) (λ _. by-header (headerOf bytes) refl) (λ _. omega arith))
+    (λ _. either-fair bytes (beginsP1 bytes) (headed bytes (headerOf bytes)) (refused 21 0) (λ _. by-header (headerOf bytes) refl) (λ _. omega arith))
   where
     by-raster : (width height at : ℕ) → headerOf bytes ≡ Sound width height at
-        → (r : Raster) → plainAt bytes (width * height) at ≡ r → Fair (rastered width height r)
+        → (r : Raster) → plainAt bytes (width * height) at ≡ r → Fair bytes (rastered width height r)
     by-raster width height at e (pixels l) f =
         let s = sound-sizes width height at bytes e in
         let points = black width 0 l in
-        either-fair (ltb most (length points)) (refused 2 0) (picture width height points) (λ _. omega arith)
+        either-fair bytes (ltb most (length points)) (refused 2 0) (picture width height points) (λ _. omega arith)
         (λ g. record {
+          at = at;
+          colours = l;
+          header = e;
+          raster = f;
+          lists = black-lists width l (s .0 .0);
           few = ltb-false most (length points) g;
           range = black-range width height l (s .0 .0) (s .0 .1) (s .1 .1) (plain-length (drop at bytes) (width * height) at l f);
-          order = black-order width 0 l (s .0 .0);
         })
     by-raster width height at e (fault number place) f = fault-numbered (drop at bytes) (width * height) at number place f
 
-    by-header : (h : Header) → headerOf bytes ≡ h → Fair (headed bytes h)
+    by-header : (h : Header) → headerOf bytes ≡ h → Fair bytes (headed bytes h)
     by-header (Sound width height at) e = by-raster width height at e (plainAt bytes (width * height) at) refl
     by-header (Bad place) e = omega arith
 
@@ -129,34 +138,36 @@ module _ (bytes : List ℕ) (list : List ℤ) (answer : Picture) (after : List �
   abbrev pub front : List Point
   front = points (take (2 * answer .points) after)
 
-  drawn : (r : Reading) → readingOf bytes ≡ r → Fair r → Drawn front × (length front ≡ answer .points)
-  drawn (picture width height l) e f = (subst Drawn (sym same) f, ap length same ∙ sym count)
+  drawn : (r : Reading) → readingOf bytes ≡ r → Fair bytes r → Drawn bytes (answer .width) (answer .height) front × (length front ≡ answer .points)
+  drawn (picture width height l) e f =
+      (subst₃ (Drawn bytes) (sym (told (λ a. a .width))) (sym (told (λ a. a .height))) (sym same) f, ap length same ∙ sym (told (λ a. a .points)))
     where
-      count : answer .points ≡ length l
-      count = ap (λ a. a .points) (h .answers) ∙ ap (λ r. (answerOf r) .points) e
-
-      stands : after ≡ holding l list
-      stands = h .stands ∙ ap (λ r. listAfter r list) e
+      told : (part : Picture → ℕ) → part answer ≡ part (answerOf (picture width height l))
+      told part = ap part (h .answers ∙ ap answerOf e)
 
       same : front ≡ l
       same =
-          ap (λ n. points (take (2 * n) after)) count
-          ∙ ap (λ a. points (take (2 * length l) a)) stands
+          ap (λ n. points (take (2 * n) after)) (told (λ a. a .points))
+          ∙ ap (λ a. points (take (2 * length l) a)) (h .stands ∙ ap (λ r. listAfter r list) e)
           ∙ ap points (take-at (numbers l) (drop (2 * length l) list) (2 * length l) (numbers-length l))
           ∙ points-numbers l
-  drawn (refused number place) e f = absurd (never (sym (ap (λ a. a .number) (h .answers) ∙ ap (λ r. (answerOf r) .number) e)))
+  drawn (refused number place) e f = absurd (never (sym (ap (λ a. a .number) (h .answers ∙ ap answerOf e))))
     where
       never : number ≡ answer .number → ⊥
       never g = omega (arith, g, accepted, f)
+
+  -- the points are the black pixels, each once, in row order
+  pub picture-points-drawn : Drawn bytes (answer .width) (answer .height) front
+  picture-points-drawn = drawn (readingOf bytes) refl (reading-fair bytes) .0
 
   pub picture-points-counted : length front ≡ answer .points
   picture-points-counted = drawn (readingOf bytes) refl (reading-fair bytes) .1
 
   pub picture-points-few : length front ≤ most
-  picture-points-few = drawn (readingOf bytes) refl (reading-fair bytes) .0 .few
+  picture-points-few = picture-points-drawn .few
 
   pub picture-points-in-range : All InRange front
-  picture-points-in-range = drawn (readingOf bytes) refl (reading-fair bytes) .0 .range
+  picture-points-in-range = picture-points-drawn .range
 
   pub picture-points-in-row-order : Pairs Before front
-  picture-points-in-row-order = drawn (readingOf bytes) refl (reading-fair bytes) .0 .order
+  picture-points-in-row-order = picture-points-drawn .lists .order
