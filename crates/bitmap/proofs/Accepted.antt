@@ -1,0 +1,173 @@
+-- The points of an accepted picture are its black pixels, few, in range and strictly in row order, so that the calls over points accept
+-- them. Assumes nothing.
+use mathlib.Core.Path.{_≡_, refl, sym, _∙_, ap, subst₃}
+use mathlib.Core.Bool.{Bool, true, false, cond}
+use mathlib.Core.List.{List, [], _∷_}
+use Prim.Native.Nat.{ℕ, zero, suc, _*_, _≤_, _<_}
+use native.Mathlib.Omega.{arith}
+use borrow.Author.Tests.{ltb-false}
+use lib.Dec.{eqb, ltb}
+use lib.ListN.{length, take, drop}
+use lib.Seq.{take-at}
+use lib.IntN.{ℤ}
+use Rattle.lattice.specs.Point.{Point, InRange, most, points, All, Pairs, Before, Lists}
+use Rattle.lattice.specs.Room.{numbers}
+use Rattle.lattice.proofs.Numbers.{numbers-length, points-numbers}
+use Rattle.bitmap.specs.declared.Header.{Header}
+use Rattle.bitmap.specs.declared.Header.the-variants.{Sound, Bad}
+use Rattle.bitmap.specs.declared.Picture.{Picture}
+use Rattle.bitmap.specs.Bytes.{whiteSpace}
+use Rattle.bitmap.specs.Header.{headerOf}
+use Rattle.bitmap.specs.Pixels.{Raster, pixels, fault, onto, plain, plainAt, black}
+use Rattle.bitmap.specs.Picture.{
+  Reading,
+  picture,
+  refused,
+  longest,
+  beginsP1,
+  rastered,
+  headed,
+  readingOf,
+  answerOf,
+  listAfter,
+  PicturePromise,
+}
+use Rattle.bitmap.proofs.Headers.{sound-sizes}
+use Rattle.bitmap.proofs.Plain.{none-left}
+use Rattle.bitmap.proofs.Writing.{onto-pixels}
+use Rattle.bitmap.proofs.Points.{BlackPixel, black-lists, black-range}
+
+-- ---- as many pixels as the header says
+pub plain-length : (l : List ℕ) (n i : ℕ) (m : List Bool) → plain l n i ≡ pixels m → length m ≡ n
+plain-length [] zero i m e = ap length (none-left [] i m e)
+plain-length [] (suc n) i m e = absurd (let z : _≡_ {A = ℕ} 0 1 = cc in omega arith)
+plain-length (b ∷ l) zero i m e = ap length (none-left (b ∷ l) i m e)
+plain-length (b ∷ l) (suc n) i m e =
+    by-tests (whiteSpace b) (eqb b 49) (eqb b 48) e (plain-length l (suc n) (suc i) m) (plain-length l n (suc i))
+  where
+    one-more : (p : Bool) → onto p (plain l n (suc i)) ≡ pixels m → ((q : List Bool) → plain l n (suc i) ≡ pixels q → length q ≡ n)
+        → length m ≡ suc n
+    one-more p f h = let r = onto-pixels p (plain l n (suc i)) m f in ap length (r .2) ∙ ap suc (h (r .0) (r .1))
+
+    by-tests : (space black white : Bool)
+        → cond space (plain l (suc n) (suc i))
+        (cond black (onto true (plain l n (suc i))) (cond white (onto false (plain l n (suc i))) (fault 23 i))) ≡ pixels m
+        → (plain l (suc n) (suc i) ≡ pixels m → length m ≡ suc n)
+        → ((q : List Bool) → plain l n (suc i) ≡ pixels q → length q ≡ n) → length m ≡ suc n
+    by-tests true black white f g h = g f
+    by-tests false true white f g h = one-more true f h
+    by-tests false false true f g h = one-more false f h
+    by-tests false false false f g h = absurd (let z : _≡_ {A = ℕ} 0 1 = cc in omega arith)
+
+-- ---- a refusal has a number, and a picture's points are its black pixels, as the calls over points want them
+pub record Drawn (bytes : List ℕ) (width height : ℕ) (l : List Point) : Type 0 where
+  pub at : ℕ
+  pub colours : List Bool
+  pub header : headerOf bytes ≡ Sound width height at
+  pub raster : plainAt bytes (width * height) at ≡ pixels colours
+  pub lists : Lists (BlackPixel width colours) l
+  pub few : length l ≤ most
+  pub range : All InRange l
+
+abbrev pub Fair : List ℕ → Reading → Type 0
+Fair bytes (picture width height l) = Drawn bytes width height l
+Fair bytes (refused number place) = 0 < number
+
+either-fair : (bytes : List ℕ) (t : Bool) (a b : Reading) → (t ≡ true → Fair bytes a) → (t ≡ false → Fair bytes b) → Fair bytes (cond t a b)
+either-fair bytes true a b f g = f refl
+either-fair bytes false a b f g = g refl
+
+onto-numbered : (p : Bool) (r : Raster) → ((number place : ℕ) → r ≡ fault number place → 0 < number)
+    → (number place : ℕ) → onto p r ≡ fault number place → 0 < number
+onto-numbered p (pixels l) f number place e = absurd (let z : _≡_ {A = ℕ} 0 1 = cc in omega arith)
+onto-numbered p (fault n i) f number place e = f number place e
+
+fault-numbered : (l : List ℕ) (n i number place : ℕ) → plain l n i ≡ fault number place → 0 < number
+fault-numbered [] zero i number place e = absurd (let z : _≡_ {A = ℕ} 0 1 = cc in omega arith)
+fault-numbered [] (suc n) i number place e = let f : number ≡ 24 = cc in omega arith
+fault-numbered (b ∷ l) zero i number place e = by-space (whiteSpace b) e (fault-numbered l zero (suc i) number place)
+  where
+    by-space : (t : Bool) → cond t (plain l zero (suc i)) (fault 25 i) ≡ fault number place
+        → (plain l zero (suc i) ≡ fault number place → 0 < number) → 0 < number
+    by-space true f g = g f
+    by-space false f g = let h : number ≡ 25 = cc in omega arith
+fault-numbered (b ∷ l) (suc n) i number place e =
+    by-tests (whiteSpace b) (eqb b 49) (eqb b 48) e (fault-numbered l (suc n) (suc i) number place) (fault-numbered l n (suc i))
+  where
+    by-tests : (space black white : Bool)
+        → cond space (plain l (suc n) (suc i))
+        (cond black (onto true (plain l n (suc i))) (cond white (onto false (plain l n (suc i))) (fault 23 i))) ≡ fault number place
+        → (plain l (suc n) (suc i) ≡ fault number place → 0 < number)
+        → ((m j : ℕ) → plain l n (suc i) ≡ fault m j → 0 < m) → 0 < number
+    by-tests true black white f g h = g f
+    by-tests false true white f g h = onto-numbered true (plain l n (suc i)) h number place f
+    by-tests false false true f g h = onto-numbered false (plain l n (suc i)) h number place f
+    by-tests false false false f g h = let k : number ≡ 23 = cc in omega arith
+
+reading-fair : (bytes : List ℕ) → Fair bytes (readingOf bytes)
+reading-fair bytes =
+    either-fair bytes (ltb longest (length bytes)) (refused 20 longest) (cond (beginsP1 bytes) (headed bytes (headerOf bytes)) (refused 21 0))
+    (λ _. omega arith)
+    (λ _. either-fair bytes (beginsP1 bytes) (headed bytes (headerOf bytes)) (refused 21 0) (λ _. by-header (headerOf bytes) refl) (λ _. omega arith))
+  where
+    by-raster : (width height at : ℕ) → headerOf bytes ≡ Sound width height at
+        → (r : Raster) → plainAt bytes (width * height) at ≡ r → Fair bytes (rastered width height r)
+    by-raster width height at e (pixels l) f =
+        let s = sound-sizes width height at bytes e in
+        let points = black width 0 l in
+        either-fair bytes (ltb most (length points)) (refused 2 0) (picture width height points) (λ _. omega arith)
+        (λ g. record {
+          at = at;
+          colours = l;
+          header = e;
+          raster = f;
+          lists = black-lists width l (s .0 .0);
+          few = ltb-false most (length points) g;
+          range = black-range width height l (s .0 .0) (s .0 .1) (s .1 .1) (plain-length (drop at bytes) (width * height) at l f);
+        })
+    by-raster width height at e (fault number place) f = fault-numbered (drop at bytes) (width * height) at number place f
+
+    by-header : (h : Header) → headerOf bytes ≡ h → Fair bytes (headed bytes h)
+    by-header (Sound width height at) e = by-raster width height at e (plainAt bytes (width * height) at) refl
+    by-header (Bad place) e = omega arith
+
+-- ---- over the promise
+module _ (bytes : List ℕ) (list : List ℤ) (answer : Picture) (after : List ℤ) (h : PicturePromise bytes list answer after)
+    (accepted : answer .number ≡ 0) where
+  -- the points that stand at the front of the list
+  abbrev pub front : List Point
+  front = points (take (2 * answer .points) after)
+
+  drawn : (r : Reading) → readingOf bytes ≡ r → Fair bytes r → Drawn bytes (answer .width) (answer .height) front × (length front ≡ answer .points)
+  drawn (picture width height l) e f =
+      (subst₃ (Drawn bytes) (sym (told (λ a. a .width))) (sym (told (λ a. a .height))) (sym same) f, ap length same ∙ sym (told (λ a. a .points)))
+    where
+      told : (part : Picture → ℕ) → part answer ≡ part (answerOf (picture width height l))
+      told part = ap part (h .answers ∙ ap answerOf e)
+
+      same : front ≡ l
+      same =
+          ap (λ n. points (take (2 * n) after)) (told (λ a. a .points))
+          ∙ ap (λ a. points (take (2 * length l) a)) (h .stands ∙ ap (λ r. listAfter r list) e)
+          ∙ ap points (take-at (numbers l) (drop (2 * length l) list) (2 * length l) (numbers-length l))
+          ∙ points-numbers l
+  drawn (refused number place) e f = absurd (never (sym (ap (λ a. a .number) (h .answers ∙ ap answerOf e))))
+    where
+      never : number ≡ answer .number → ⊥
+      never g = omega (arith, g, accepted, f)
+
+  -- the points are the black pixels, each once, in row order
+  pub picture-points-drawn : Drawn bytes (answer .width) (answer .height) front
+  picture-points-drawn = drawn (readingOf bytes) refl (reading-fair bytes) .0
+
+  pub picture-points-counted : length front ≡ answer .points
+  picture-points-counted = drawn (readingOf bytes) refl (reading-fair bytes) .1
+
+  pub picture-points-few : length front ≤ most
+  picture-points-few = picture-points-drawn .few
+
+  pub picture-points-in-range : All InRange front
+  picture-points-in-range = picture-points-drawn .range
+
+  pub picture-points-in-row-order : Pairs Before front
+  picture-points-in-row-order = picture-points-drawn .lists .order

@@ -1,0 +1,75 @@
+-- How the code goes through a bitmap: what each step finds, in the words of the definitions. Assumes nothing.
+use mathlib.Core.Path.{_≡_}
+use mathlib.Core.Bool.{Bool, true, false}
+use mathlib.Core.List.{List, [], _∷_}
+use Prim.Native.Nat.{ℕ, suc, _+_, _*_, _≤_, _<_, min}
+use lib.ListN.{length, getD}
+use lib.IntN.{ℤ}
+use Rattle.lattice.specs.Point.{most}
+use Rattle.bitmap.specs.declared.Run.{Run}
+use Rattle.bitmap.specs.declared.Part.{Part}
+use Rattle.bitmap.specs.declared.Part.the-variants as parts
+use Rattle.bitmap.specs.declared.Header.{Header}
+use Rattle.bitmap.specs.declared.Header.the-variants.{Bad}
+use Rattle.bitmap.specs.declared.Pixel.{Pixel}
+use Rattle.bitmap.specs.declared.Pixel.the-variants.{Black, White, Fault}
+use Rattle.bitmap.specs.declared.Count.{Count}
+use Rattle.bitmap.specs.declared.Count.the-variants as counts
+use Rattle.bitmap.specs.Bytes.{whiteSpace, hash, digit, Placed, readAt}
+use Rattle.bitmap.specs.Header.{behind, size as sizeOf, greatestSize, sizeThen}
+use Rattle.bitmap.specs.Pixels.{Raster, pixels, fault, onto, plainAt, blackIn}
+
+-- ---- the header
+-- no comment begins at the place
+abbrev pub Settled : List ℕ → ℕ → Type 0
+Settled bytes i = i < length bytes → getD bytes i 0 ≡ hash → ⊥
+
+-- from place r on, where no comment begins, all that is left of l is read
+pub record Leads (bytes : List ℕ) (l : List Placed) (at r : ℕ) : Type 0 where
+  pub reads : l ≡ readAt bytes r
+  pub settled : Settled bytes r
+  pub forward : at ≤ r
+  pub inside : r ≤ length bytes
+
+-- the size that is read at a place, no more than one above the greatest, and where its digits end
+pub record RunAt (bytes : List ℕ) (at : ℕ) (r : Run) : Type 0 where
+  pub size : r .size ≡ min (suc greatestSize) (sizeOf (readAt bytes at))
+  pub reads : behind digit (readAt bytes at) ≡ readAt bytes (r .end)
+  pub inside : r .end ≤ length bytes
+
+-- the header from a place is the size found there and the rest behind it, or it breaks
+abbrev pub Sized : List ℕ → ℕ → Part → Type 0
+Sized bytes at (parts.Size size end) =
+    ((rest : ℕ → List Placed → Header) → sizeThen bytes (readAt bytes at) rest ≡ rest size (readAt bytes end)) × (end ≤ length bytes)
+Sized bytes at (parts.Bad place) = (rest : ℕ → List Placed → Header) → sizeThen bytes (readAt bytes at) rest ≡ Bad place
+
+-- ---- the pixels
+-- r is the next byte that is no white space, or past the end
+pub record Skips (bytes : List ℕ) (at r : ℕ) : Type 0 where
+  pub same : (n : ℕ) → plainAt bytes n at ≡ plainAt bytes n r
+  pub stops : r < length bytes → whiteSpace (getD bytes r 0) ≡ false
+
+-- n + 1 pixels from a place are the one found there and n behind it, or its fault, however a raster is read
+abbrev pub Fetches : (ℕ → ℕ → Raster) → ℕ → Pixel → Type 0
+Fetches raster at (Black next) = (n : ℕ) → raster (suc n) at ≡ onto true (raster n next)
+Fetches raster at (White next) = (n : ℕ) → raster (suc n) at ≡ onto false (raster n next)
+Fetches raster at (Fault number place) = (n : ℕ) → raster (suc n) at ≡ fault number place
+
+-- how many are black
+abbrev pub blacks : List Bool → ℕ
+blacks [] = 0
+blacks (true ∷ l) = suc (blacks l)
+blacks (false ∷ l) = blacks l
+
+-- c black pixels, and those of a raster
+abbrev pub counted : ℕ → Raster → Count
+counted c (pixels l) = counts.Black (c + blacks l)
+counted c (fault number place) = counts.Fault number place
+
+-- a raster with no fault and few enough black pixels, of a size in range, and a list with room for the most points
+pub record Writable (raster : Raster) (width all : ℕ) (list : List ℤ) : Type 0 where
+  pub sound : (l : List Bool) × (raster ≡ pixels l)
+  pub few : length (blackIn width raster) ≤ most
+  pub wide : 1 ≤ width
+  pub small : all ≤ greatestSize * greatestSize
+  pub room : 2 * most ≤ length list
