@@ -19,19 +19,7 @@ use Rattle.bitmap.specs.declared.Picture.{Picture}
 use Rattle.bitmap.specs.Bytes.{whiteSpace}
 use Rattle.bitmap.specs.Header.{headerOf}
 use Rattle.bitmap.specs.Pixels.{Raster, pixels, fault, onto, plain, plainAt, black}
-use Rattle.bitmap.specs.Picture.{
-  Reading,
-  picture,
-  refused,
-  longest,
-  beginsP1,
-  rastered,
-  headed,
-  readingOf,
-  answerOf,
-  listAfter,
-  PicturePromise,
-}
+use Rattle.bitmap.specs.Picture.{Reading, picture, refused, longest, beginsP1, rastered, headed, readingOf, answerOf, listAfter, PicturePromise}
 use Rattle.bitmap.proofs.Headers.{sound-sizes}
 use Rattle.bitmap.proofs.Plain.{none-left}
 use Rattle.bitmap.proofs.Writing.{onto-pixels}

@@ -14,20 +14,7 @@ use Rattle.bitmap.specs.declared.Header.{Header}
 use Rattle.bitmap.specs.declared.Header.the-variants.{Sound, Bad}
 use Rattle.bitmap.specs.declared.Run.{Run}
 use Rattle.bitmap.specs.Bytes.{whiteSpace, digit, Placed, readAt}
-use Rattle.bitmap.specs.Header.{
-  starts,
-  behind,
-  size,
-  greatestSize,
-  inSize,
-  placeIn,
-  unless,
-  broken,
-  sizeThen,
-  afterHeight,
-  afterWidth,
-  headerOf,
-}
+use Rattle.bitmap.specs.Header.{starts, behind, size, greatestSize, inSize, placeIn, unless, broken, sizeThen, afterHeight, afterWidth, headerOf}
 use Rattle.bitmap.specs.Steps.{Settled, Leads, RunAt}
 use Rattle.bitmap.proofs.Reading.{read-end, read-byte}
 use Rattle.bitmap.proofs.Sizes.{limit}

@@ -17,19 +17,7 @@ use Rattle.bitmap.specs.declared.Header.the-variants.{Sound, Bad}
 use Rattle.bitmap.specs.declared.Picture.{Picture}
 use Rattle.bitmap.specs.Header.{greatestSize, headerOf}
 use Rattle.bitmap.specs.Pixels.{Raster, pixels, fault, plainAt, black, blackIn}
-use Rattle.bitmap.specs.Picture.{
-  Reading,
-  picture,
-  refused,
-  longest,
-  beginsP1,
-  rastered,
-  headed,
-  readingOf,
-  answerOf,
-  listAfter,
-  PicturePromise,
-}
+use Rattle.bitmap.specs.Picture.{Reading, picture, refused, longest, beginsP1, rastered, headed, readingOf, answerOf, listAfter, PicturePromise}
 use Rattle.bitmap.specs.Steps.{blacks, counted, Writable}
 use Rattle.bitmap.proofs.Headers.{sound-sizes}
 

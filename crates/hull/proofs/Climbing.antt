@@ -7,7 +7,7 @@ use native.Mathlib.Omega.{arith}
 use native.Mathlib.Numerals.{add-one}
 use lib.ListN.{length, getD, set, take}
 use lib.Seq.{getD-take, length-take-le}
-use lib.IntN.{ℤ, pos, negsuc, negℤ}
+use lib.IntN.{pos, negsuc, negℤ}
 use Rattle.lattice.specs.Point.{InRange, All}
 use Rattle.lattice.specs.Hull.{Of, CornerList}
 use Rattle.lattice.proofs.Lists.{either, in-all}

@@ -2,12 +2,12 @@
 use mathlib.Core.Path.{_≡_, refl, sym, _∙_, ap, subst}
 use mathlib.Core.Logic.{inl, inr}
 use mathlib.Core.List.{List, map}
-use Prim.Native.Nat.{ℕ, zero, suc, _*_, _/_, _≤_, _<_}
+use Prim.Native.Nat.{ℕ, zero, suc, _/_, _≤_}
 use native.Mathlib.Omega.{arith}
 use lib.ListN.{length, getD, take, length-map}
 use lib.Seq.{length-take-le}
 use lib.IntN.{ℤ}
-use Rattle.lattice.specs.Point.{Point, points, point, Before, Lists}
+use Rattle.lattice.specs.Point.{Point, points, point, Before}
 use Rattle.lattice.specs.Hull.{Of, CornerList}
 use Rattle.lattice.specs.Refusal.{Table, accepted, _when_else_, Gives, Whole, listRows}
 use Rattle.lattice.specs.Room.{holding, TooSmall}
@@ -20,7 +20,7 @@ use Rattle.lattice.proofs.Tables.{declined-before, passed-before, whole-first, 
 use Rattle.packed.specs.Packed.{unpacked}
 use Rattle.packed.proofs.RowOrder.{unpacked-before}
 use Rattle.order.specs.declared.Ordered.{Ordered}
-use Rattle.order.specs.Keys.{Below, KeysOf, Finds}
+use Rattle.order.specs.Keys.{KeysOf, Finds}
 use Rattle.packed.proofs.KeyLaws.{unpacked-at}
 use Rattle.hull.specs.declared.Hulled.{Hulled}
 use Rattle.hull.specs.Scanning.{Rising, Cornered}

@@ -1,14 +1,14 @@
 -- The first and the last points of rows, among packed points that rise. Assumes nothing.
-use mathlib.Core.Path.{_≡_, refl, sym, _∙_, ap, subst}
-use mathlib.Core.Logic.{_⊎_, inl, inr}
-use mathlib.Core.List.{List, [], _∷_, map}
+use mathlib.Core.Path.{_≡_, refl, sym, _∙_, ap}
+use mathlib.Core.Logic.{inl, inr}
+use mathlib.Core.List.{List, [], _∷_}
 use Prim.Native.Nat.{ℕ, zero, suc, _+_, _-_, _*_, _/_, _%_, _≤_, _<_}
 use native.Mathlib.Omega.{arith}
 use lib.ListN.{length, getD, take, drop, length-drop}
 use lib.Seq.{length-take-le, getD-take, getD-drop}
 use lib.IntN.{ℤ, pos, negsuc, negℤ, _-ℤ_, _*ℤ_}
-use Rattle.whole.proofs.Whole.{quote, _<ᶻ_, NonNegative, gap<, _⊞_, _⊠_, linear≤}
-use Rattle.lattice.specs.Point.{Point, InRange, Before}
+use Rattle.whole.proofs.Whole.{quote, NonNegative, _⊠_, linear≤}
+use Rattle.lattice.specs.Point.{InRange}
 use Rattle.lattice.proofs.Lists.{either}
 use Rattle.lattice.proofs.Places.{lt-or-le}
 use Rattle.lattice.proofs.RowKey.{rangeWidth, before-key, key-before, opposite, opposite-back}

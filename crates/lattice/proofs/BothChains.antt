@@ -7,20 +7,7 @@ use Prim.Native.Nat.{ℕ, zero, suc, _+_, _-_, _≤_, _<_}
 use native.Mathlib.Omega.{arith}
 use lib.ListN.{length}
 use lib.IntN.{ℤ, pos, negsuc, negℤ, _+ℤ_, _-ℤ_, _*ℤ_}
-use Rattle.whole.proofs.Whole.{
-  ring,
-  quote,
-  _<ᶻ_,
-  _≤ᶻ_,
-  NonNegative,
-  Positive,
-  gap≤,
-  gap<,
-  _⊞_,
-  linear<,
-  linear⊥,
-  positive-by-products,
-}
+use Rattle.whole.proofs.Whole.{ring, quote, _<ᶻ_, _≤ᶻ_, NonNegative, Positive, gap≤, gap<, _⊞_, linear<, linear⊥, positive-by-products}
 use Rattle.lattice.specs.Point.{Point, InRange, point, In, All, Pairs, Triples, Before}
 use Rattle.lattice.specs.Hull.{turn, Of}
 use Rattle.lattice.proofs.Turn.{coordinates, Left, turn-cyclic}
@@ -31,16 +18,7 @@ use Rattle.lattice.proofs.Shape.{Shape, shape-test}
 use Rattle.lattice.proofs.Polygon.{Inside, polygon}
 use Rattle.lattice.proofs.Sandwich.{Spans}
 use Rattle.lattice.proofs.Scan.{Scanned, Over, TurnsLeft, bottom, stack-rises, stack-turns}
-use Rattle.lattice.proofs.Stack.{
-  stack,
-  front,
-  length-front,
-  point-front,
-  stack-in,
-  stack-chain-place,
-  stack-pairs-place,
-  stack-triples-place,
-}
+use Rattle.lattice.proofs.Stack.{stack, front, length-front, point-front, stack-in, stack-chain-place, stack-pairs-place, stack-triples-place}
 
 -- the scan up the rows, and the scan down
 abbrev pub Upward : ℤ → (Point → Type 0) → Point → List Point → Type 0

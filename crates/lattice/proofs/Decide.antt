@@ -8,23 +8,7 @@ use lib.IntN.{ℤ, pos}
 use lib.Signed.{_≤ℤ_, _<ℤ_, leZ, ltZ}
 use Rattle.whole.proofs.Whole.{antisymmetric, le-of-equal}
 use Rattle.lattice.specs.Point.{Point, In, All, Pairs, Triples, Before, row, column}
-use Rattle.lattice.specs.Hull.{
-  turn,
-  Between,
-  OnSegment,
-  InTriangle,
-  InHull,
-  member,
-  segment,
-  triangle,
-  Of,
-  Rest,
-  Corner,
-  StartsFirst,
-  CornerList,
-  Missing,
-  Kept,
-}
+use Rattle.lattice.specs.Hull.{turn, Between, OnSegment, InTriangle, InHull, member, segment, triangle, Of, Rest, Corner, StartsFirst, CornerList, Missing, Kept}
 use Rattle.lattice.proofs.Lists.{either, all-in, in-all}
 use Rattle.lattice.proofs.HalfPlane.{point-equal}
 use Rattle.lattice.proofs.HullLaws.{hull-larger}

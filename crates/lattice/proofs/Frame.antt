@@ -6,22 +6,7 @@ use mathlib.Core.List.{List, [], _∷_, _++_}
 use Prim.Native.Nat.{ℕ, zero, suc, _+_}
 use native.Mathlib.Omega.{arith}
 use lib.IntN.{ℤ, pos, negsuc, negℤ, _+ℤ_, _-ℤ_}
-use Rattle.whole.proofs.Whole.{
-  ring,
-  quote,
-  _≤ᶻ_,
-  _<ᶻ_,
-  natural,
-  gap≤,
-  gap<,
-  _⊞_,
-  _⋆≡_,
-  linear≤,
-  linear<,
-  linear⊥,
-  le-or-lt,
-  antisymmetric,
-}
+use Rattle.whole.proofs.Whole.{ring, quote, _≤ᶻ_, _<ᶻ_, natural, gap≤, gap<, _⊞_, _⋆≡_, linear≤, linear<, linear⊥, le-or-lt, antisymmetric}
 use Rattle.lattice.specs.Point.{Point, least, InRange, In, Pairs, Before, row, column, Lists}
 use Rattle.lattice.specs.Hull.{InHull}
 use Rattle.lattice.proofs.Turn.{coordinates}

@@ -12,19 +12,7 @@ use Rattle.lattice.specs.Hull.{Of, InHull, Missing, MissingList, Kept}
 use Rattle.lattice.specs.Refusal.{accepted, Gives, rebuildRows}
 use Rattle.lattice.specs.Grains.{Row, grain, rebuild, Verdict, firstOf, Holds, AllHold, grains}
 use Rattle.lattice.proofs.Lists.{all-in}
-use Rattle.lattice.proofs.Decide.{
-  Decided,
-  both,
-  in-words,
-  le?,
-  lt?,
-  same?,
-  all?,
-  cornerList?,
-  missing?,
-  kept?,
-  keep,
-}
+use Rattle.lattice.proofs.Decide.{Decided, both, in-words, le?, lt?, same?, all?, cornerList?, missing?, kept?, keep}
 use Rattle.lattice.proofs.Frame.{Framed, frame, hull-framed, listed-by-frame}
 use Rattle.lattice.proofs.Refusals.{accepts, given, rebuild-runs}
 

@@ -4,35 +4,7 @@ use mathlib.Core.Path.{_≡_, sym, _∙_, ap, subst}
 use mathlib.Core.Logic.{_⊎_, inl, inr}
 use mathlib.Core.List.{[], _∷_}
 use lib.IntN.{ℤ, pos, negℤ, _+ℤ_, _-ℤ_, _*ℤ_}
-use Rattle.whole.proofs.Whole.{
-  ring,
-  quote,
-  _≤ᶻ_,
-  _<ᶻ_,
-  NonNegative,
-  Positive,
-  square-nonnegative,
-  gap≤,
-  gap<,
-  _⊞_,
-  _⊠_,
-  _⋆≡_,
-  linear≤,
-  linear<,
-  linear⊥,
-  le-or-lt,
-  le-of-equal,
-  le-of-lt,
-  Sign,
-  below,
-  nought,
-  above,
-  sign,
-  nonnegative-factor,
-  difference-zero,
-  square-zero,
-  squares-zero,
-}
+use Rattle.whole.proofs.Whole.{ring, quote, _≤ᶻ_, _<ᶻ_, NonNegative, Positive, square-nonnegative, gap≤, gap<, _⊞_, _⊠_, _⋆≡_, linear≤, linear<, linear⊥, le-or-lt, le-of-equal, le-of-lt, Sign, below, nought, above, sign, nonnegative-factor, difference-zero, square-zero, squares-zero}
 use Rattle.lattice.specs.Point.{Point}
 use Rattle.lattice.specs.Hull.{turn, Between, OnSegment, InTriangle, InHull, member, segment, triangle}
 use Rattle.lattice.proofs.Turn.{coordinates, affine, linear, barycentric}

@@ -1,9 +1,9 @@
 -- The points of a list of numbers by place, and points written as numbers. Assumes nothing.
 use mathlib.Core.Path.{_≡_, refl, sym, _∙_, ap}
 use mathlib.Core.List.{List, [], _∷_, _++_}
-use Prim.Native.Nat.{ℕ, zero, suc, _+_, _*_, _/_, _≤_, _<_}
+use Prim.Native.Nat.{ℕ, zero, suc, _+_, _*_, _/_, _<_}
 use native.Mathlib.Omega.{arith}
-use lib.ListN.{length, getD, length-append}
+use lib.ListN.{length, getD}
 use lib.IntN.{ℤ, pos}
 use Rattle.lattice.specs.Point.{Point, points, point}
 use Rattle.lattice.specs.Room.{numbers}

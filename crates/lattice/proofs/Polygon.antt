@@ -7,28 +7,7 @@ use Prim.Native.Nat.{ℕ, zero, suc, _+_, _<_}
 use native.Mathlib.Omega.{arith}
 use lib.ListN.{length}
 use lib.IntN.{ℤ, pos, negℤ, _-ℤ_, _*ℤ_}
-use Rattle.whole.proofs.Whole.{
-  quote,
-  _≤ᶻ_,
-  NonNegative,
-  Positive,
-  square-nonnegative,
-  gap≤,
-  gap<,
-  _⊞_,
-  _⊠_,
-  _⋆≡_,
-  _∗≡_,
-  linear≤,
-  linear<,
-  linear⊥,
-  linear≡,
-  le-or-lt,
-  le-of-lt,
-  antisymmetric,
-  product-positive,
-  nonnegative-factor,
-}
+use Rattle.whole.proofs.Whole.{quote, _≤ᶻ_, NonNegative, Positive, square-nonnegative, gap≤, gap<, _⊞_, _⊠_, _⋆≡_, _∗≡_, linear≤, linear<, linear⊥, linear≡, le-or-lt, le-of-lt, antisymmetric, product-positive, nonnegative-factor}
 use Rattle.lattice.specs.Point.{Point, point, In, Triples, Before}
 use Rattle.lattice.specs.Hull.{turn, OnSegment, InHull, member, segment, triangle, Of}
 use Rattle.lattice.proofs.Turn.{coordinates, Left, turn-cyclic, turn-back, start-on-edge, end-on-edge}

@@ -9,35 +9,10 @@ use lib.Dec.{T, ltb, ltb→lt, lt→ltb, eqb, eqb→eq, eqb-refl}
 use lib.ListN.{length}
 use lib.IntN.{ℤ}
 use Rattle.lattice.specs.Point.{Point, least, greatest, InRange, most, points, point, Before}
-use Rattle.lattice.specs.Refusal.{
-  First,
-  Table,
-  accepted,
-  _when_else_,
-  Gives,
-  Whole,
-  AtPoint,
-  Repeats,
-  Strays,
-  listRows,
-  rebuildRows,
-}
+use Rattle.lattice.specs.Refusal.{First, Table, accepted, _when_else_, Gives, Whole, AtPoint, Repeats, Strays, listRows, rebuildRows}
 use Rattle.lattice.proofs.Lists.{either}
 use Rattle.lattice.proofs.Places.{lt-or-le}
-use Rattle.lattice.proofs.Decide.{
-  Decided,
-  both,
-  one-of,
-  in-words,
-  negated,
-  yes-or-no,
-  le?,
-  same?,
-  before?,
-  in?,
-  hull?,
-  cornerList?,
-}
+use Rattle.lattice.proofs.Decide.{Decided, both, one-of, in-words, negated, yes-or-no, le?, same?, before?, in?, hull?, cornerList?}
 
 -- ---- any two outcomes of a table coincide
 not-later : (P : ℕ → Type 0) (i j : ℕ) → First P i → First P j → i ≤ j

@@ -5,36 +5,13 @@ use mathlib.Core.Logic.{inl, inr}
 use mathlib.Core.List.{List, [], _∷_}
 use Prim.Native.Nat.{ℕ}
 use lib.IntN.{ℤ, pos, negsuc, negℤ, _+ℤ_, _-ℤ_}
-use Rattle.whole.proofs.Whole.{
-  quote,
-  _≤ᶻ_,
-  _<ᶻ_,
-  Positive,
-  NonNegative,
-  gap≤,
-  gap<,
-  _⊞_,
-  _⊠_,
-  _⋆≡_,
-  linear≤,
-  linear<,
-  linear⊥,
-  le-or-lt,
-  Sign,
-  below,
-  nought,
-  above,
-  sign,
-  difference-zero,
-  positive-by-products,
-}
+use Rattle.whole.proofs.Whole.{quote, _≤ᶻ_, _<ᶻ_, Positive, NonNegative, gap≤, gap<, _⊞_, _⊠_, _⋆≡_, linear≤, linear<, linear⊥, Sign, below, nought, above, sign, difference-zero, positive-by-products}
 use Rattle.lattice.specs.Point.{Point, least, greatest, InRange, In, Before, row, column}
 use Rattle.lattice.specs.Hull.{InHull, Of}
 use Rattle.lattice.proofs.Turn.{coordinates, linear, Left, three-vectors}
-use Rattle.lattice.proofs.Lists.{either, all-in}
+use Rattle.lattice.proofs.Lists.{all-in}
 use Rattle.lattice.proofs.HalfPlane.{strict-half-plane}
 use Rattle.lattice.proofs.HullLaws.{hull-of-few}
-use Rattle.lattice.proofs.RowOrder.{before-total}
 use Rattle.lattice.proofs.Reach.{reach, reaches}
 
 -- a key with K columns to a row: x + K y
@@ -107,22 +84,6 @@ module _ (a b : Point) (ra : InRange a) (rb : InRange b) where
 
   pub key-before : key a <ᶻ key b → Before a b
   key-before = range-order .follows a b ra rb
-
--- not before, by the key
-pub key-not-before : (a b : Point) → InRange a → InRange b → key b ≤ᶻ key a → Before a b → ⊥
-key-not-before a b ra rb h g =
-    linear⊥ (key a ∷ key b ∷ []) (gap≤ h ⊞ gap< (before-key a b ra rb g)) (search quote depth 20) tt
-
-pub not-before-key : (a b : Point) → InRange a → InRange b → (Before a b → ⊥) → key b ≤ᶻ key a
-not-before-key a b ra rb n = either (le-or-lt (key b) (key a)) (λ h. h) (λ h. absurd (n (key-before a b ra rb h)))
-
--- points in range are told apart by their keys
-pub key-injective : (a b : Point) → InRange a → InRange b → key a ≡ key b → a ≡ b
-key-injective a b ra rb e = either (before-total a b) (λ h. clash (before-key a b ra rb h) e)
-    (λ r. either r (λ x. x) (λ h. clash (before-key b a rb ra h) (sym e)))
-  where
-    clash : {u v : ℤ} → u <ᶻ v → u ≡ v → a ≡ b
-    clash {u} {v} h e = linear⊥ (u ∷ v ∷ []) (gap< h ⊞ pos 1 ⋆≡ sym e) (search quote depth 20) tt
 
 -- ---- the same order the other way round
 pub opposite : (K : ℤ) (a b : Point) → keyBy K a <ᶻ keyBy K b → linear (negsuc 0) (negℤ K) b <ᶻ linear (negsuc 0) (negℤ K) a

@@ -3,20 +3,7 @@ use mathlib.Core.Path.{_≡_, sym, _∙_, subst}
 use mathlib.Core.Logic.{_⊎_, inl, inr}
 use mathlib.Core.List.{List, [], _∷_}
 use lib.IntN.{ℤ, pos, _-ℤ_}
-use Rattle.whole.proofs.Whole.{
-  quote,
-  _<ᶻ_,
-  gap<,
-  _⊞_,
-  linear<,
-  linear⊥,
-  Sign,
-  below,
-  nought,
-  above,
-  sign,
-  difference-zero,
-}
+use Rattle.whole.proofs.Whole.{quote, _<ᶻ_, gap<, _⊞_, linear<, linear⊥, Sign, below, nought, above, sign, difference-zero}
 use Rattle.lattice.specs.Point.{Point, Pairs, Before, row, column}
 use Rattle.lattice.proofs.Lists.{either, Chain, chain-pairs}
 use Rattle.lattice.proofs.HalfPlane.{point-equal}

@@ -1,17 +1,17 @@
 -- A scan in an array: a point pushed after some are popped, and a scan over row ends alone that has all points on its left. Assumes nothing.
-use mathlib.Core.Path.{_≡_, refl, sym, _∙_, ap, subst}
-use mathlib.Core.Logic.{_⊎_, inl, inr}
+use mathlib.Core.Path.{_≡_, sym, subst}
+use mathlib.Core.Logic.{_⊎_}
 use mathlib.Core.List.{List, [], _∷_}
 use Prim.Native.Nat.{ℕ, zero, suc, _≤_, _<_}
 use native.Mathlib.Omega.{arith}
-use lib.IntN.{ℤ, pos, _+ℤ_, _-ℤ_, _*ℤ_}
-use Rattle.whole.proofs.Whole.{ring, quote, _≤ᶻ_, NonNegative, gap≤, _⊞_, _⋆≡_, linear≤}
+use lib.IntN.{ℤ, pos, _-ℤ_, _*ℤ_}
+use Rattle.whole.proofs.Whole.{quote, _≤ᶻ_, NonNegative, _⊞_, _⋆≡_, linear≤}
 use Rattle.lattice.specs.Point.{Point, All}
 use Rattle.lattice.specs.Hull.{turn}
 use Rattle.lattice.proofs.Turn.{coordinates, linear, Left}
 use Rattle.lattice.proofs.Lists.{either, Chain, all-map}
 use Rattle.lattice.proofs.Places.{lt-or-le}
-use Rattle.lattice.proofs.Scan.{bottom, TurnsLeft, With, Over, Stacked, Scanned, Popping, pop-start, pop-step, push}
+use Rattle.lattice.proofs.Scan.{bottom, With, Over, Scanned, Popping, pop-start, pop-step, push}
 use Rattle.lattice.proofs.Stack.{stack, stack-agrees}
 use Rattle.lattice.proofs.BothChains.{turns-left-place}
 

@@ -6,26 +6,7 @@ use Prim.Native.Nat.{ℕ, zero, suc, _<_}
 use native.Mathlib.Omega.{arith}
 use lib.ListN.{length}
 use lib.IntN.{ℤ, pos, _+ℤ_, _-ℤ_, _*ℤ_}
-use Rattle.whole.proofs.Whole.{
-  ring,
-  quote,
-  _≤ᶻ_,
-  NonNegative,
-  Positive,
-  natural,
-  gap≤,
-  gap<,
-  _⊞_,
-  _∗≡_,
-  _∔_,
-  linear≤,
-  linear⊥,
-  linear≡,
-  le-or-lt,
-  antisymmetric,
-  zero-factor,
-  difference-zero,
-}
+use Rattle.whole.proofs.Whole.{ring, quote, _≤ᶻ_, NonNegative, Positive, natural, gap≤, gap<, _⊞_, _∗≡_, _∔_, linear≤, linear⊥, linear≡, le-or-lt, antisymmetric, zero-factor, difference-zero}
 use Rattle.lattice.specs.Point.{Point, point, In, All, Pairs, Before}
 use Rattle.lattice.specs.Hull.{turn, InHull, member, Of, Rest, Corner, CornerList}
 use Rattle.lattice.proofs.Turn.{coordinates, affine, Left, turn-cyclic}

@@ -4,24 +4,7 @@ use mathlib.Core.Path.{_≡_, refl, sym, subst}
 use mathlib.Core.Logic.{_⊎_, inl, inr}
 use mathlib.Core.List.{List, [], _∷_}
 use lib.IntN.{ℤ, pos, _+ℤ_, _-ℤ_, _*ℤ_}
-use Rattle.whole.proofs.Whole.{
-  ring,
-  quote,
-  _≤ᶻ_,
-  _<ᶻ_,
-  NonNegative,
-  Positive,
-  gap≤,
-  gap<,
-  _⊞_,
-  linear≤,
-  linear<,
-  linear⊥,
-  le-or-lt,
-  le-of-equal,
-  le-of-lt,
-  nonnegative-by-products,
-}
+use Rattle.whole.proofs.Whole.{ring, quote, _≤ᶻ_, _<ᶻ_, NonNegative, Positive, gap≤, gap<, _⊞_, linear≤, linear<, linear⊥, le-or-lt, le-of-equal, le-of-lt, nonnegative-by-products}
 use Rattle.lattice.specs.Point.{Point, All, Pairs, Triples}
 use Rattle.lattice.specs.Hull.{turn, Of}
 use Rattle.lattice.proofs.Turn.{coordinates, linear, Left, three-vectors, start-on-edge, end-on-edge}

@@ -12,18 +12,7 @@ use Rattle.lattice.proofs.Turn.{coordinates}
 use Rattle.lattice.proofs.Lists.{either, pairs-map, Chain, pairs-chain}
 use Rattle.lattice.proofs.RowKey.{keyBy, Orders, list-order, opposite, opposite-back}
 use Rattle.lattice.proofs.Sandwich.{Spans, spans-itself}
-use Rattle.lattice.proofs.Scan.{
-  bottom,
-  With,
-  Over,
-  Scanned,
-  Popping,
-  scan-start,
-  scan-same,
-  pop-start,
-  pop-step,
-  push,
-}
+use Rattle.lattice.proofs.Scan.{bottom, With, Over, Scanned, Popping, scan-start, scan-same, pop-start, pop-step, push}
 use Rattle.lattice.proofs.Stack.{stack, front, stack-agrees, splice, splice-low, splice-high}
 use Rattle.lattice.proofs.BothChains.{Upward, Downward, bottom-stack, chains-span}
 use Rattle.lattice.proofs.RowLists.{row-order-exists}

@@ -6,20 +6,7 @@ use mathlib.Core.List.{List, [], _∷_, _++_}
 use Prim.Native.Nat.{ℕ, _+_, _/_}
 use lib.ListN.{take}
 use lib.IntN.{ℤ, pos, negsuc, _-ℤ_}
-use Rattle.whole.proofs.Whole.{
-  ring,
-  quote,
-  _≤ᶻ_,
-  _<ᶻ_,
-  NonNegative,
-  natural,
-  gap<,
-  _⊞_,
-  _⋆≡_,
-  linear≤,
-  le-or-lt,
-  antisymmetric,
-}
+use Rattle.whole.proofs.Whole.{ring, quote, _≤ᶻ_, _<ᶻ_, NonNegative, natural, gap<, _⊞_, _⋆≡_, linear≤, le-or-lt, antisymmetric}
 use Rattle.lattice.specs.Point.{Point, origin, In, Before, Lists}
 use Rattle.lattice.specs.Hull.{turn, InHull, member, segment, triangle, Of, StartsFirst, CornerList, Missing, Convex}
 use Rattle.lattice.specs.Grains.{at}

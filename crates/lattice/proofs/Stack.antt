@@ -26,11 +26,6 @@ stack-agrees f g (suc n) h =
     let r = stack-agrees f g n (λ i l. h i (omega arith)) in
     λ i. e i ∷ r i
 
-pub stack-push : (f g : ℕ → Point) (n : ℕ) (p : Point) → ((i : ℕ) → i < n → g i ≡ f i) → g n ≡ p → stack g (suc n) ≡ p ∷ stack f n
-stack-push f g n p h e =
-    let r = stack-agrees f g n h in
-    λ i. e i ∷ r i
-
 -- ---- the stack from its bottom is the list
 stack-shift : (f : ℕ → Point) (n : ℕ) (l : List Point) → reverseAux (stack f (suc n)) l ≡ f zero ∷ reverseAux (stack (λ i. f (suc i)) n) l
 stack-shift f zero l = refl

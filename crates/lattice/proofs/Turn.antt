@@ -42,11 +42,7 @@ start-on-edge a b = linear≤ (coordinates (a ∷ b ∷ [])) (natural 0) (search
 pub end-on-edge : (a b : Point) → NonNegative (turn a b b)
 end-on-edge a b = linear≤ (coordinates (a ∷ b ∷ [])) (natural 0) (search quote depth 20) tt
 
--- ---- a fourth point
-pub turn-splits : (a b c p : Point) → turn a b p +ℤ turn b c p +ℤ turn c a p ≡ turn a b c
-turn-splits a b c p = ring (coordinates (a ∷ b ∷ c ∷ p ∷ [])) (search quote depth 20) tt
-
--- a fifth, Plücker: every step "sorted by angle about o, so .." is one of these two
+-- ---- five points, Plücker: every step "sorted by angle about o, so .." is one of these two
 pub plücker-inner : (o a b c d : Point) → turn o b c *ℤ turn a c d ≡ turn o c d *ℤ turn a b c +ℤ turn o a c *ℤ turn b c d
 plücker-inner o a b c d = ring (coordinates (o ∷ a ∷ b ∷ c ∷ d ∷ [])) (search quote depth 20) tt
 
@@ -65,15 +61,9 @@ pub three-vectors : (α β : ℤ) (o u v w : Point)
     ≡ (linear α β w -ℤ linear α β o) *ℤ turn o u v +ℤ (linear α β u -ℤ linear α β o) *ℤ turn o v w
 three-vectors α β o u v w = ring (α ∷ β ∷ coordinates (o ∷ u ∷ v ∷ w ∷ [])) (search quote depth 20) tt
 
--- ---- motions that keep the turn
+-- ---- a motion keeps the turn
 abbrev pub translated : ℤ → ℤ → Point → Point
 translated c d p = record { x = p .x +ℤ c; y = p .y +ℤ d }
 
-abbrev pub slipped : ℤ → ℤ → Point → Point
-slipped k c p = record { x = p .x +ℤ k *ℤ p .y +ℤ c; y = p .y }
-
 pub turn-translated : (c d : ℤ) (p q r : Point) → turn (translated c d p) (translated c d q) (translated c d r) ≡ turn p q r
 turn-translated c d p q r = ring (c ∷ d ∷ coordinates (p ∷ q ∷ r ∷ [])) (search quote depth 20) tt
-
-pub turn-slipped : (k c : ℤ) (p q r : Point) → turn (slipped k c p) (slipped k c q) (slipped k c r) ≡ turn p q r
-turn-slipped k c p q r = ring (k ∷ c ∷ coordinates (p ∷ q ∷ r ∷ [])) (search quote depth 20) tt

@@ -1,21 +1,20 @@
 -- What each way out of `find` tells: the refusals 1 to 4 of a list, or its points in row order. Assumes nothing.
 use mathlib.Core.Path.{_≡_, refl, sym, _∙_, ap, subst}
 use mathlib.Core.Logic.{inl, inr}
-use mathlib.Core.List.{List, map, _++_}
-use Prim.Native.Nat.{ℕ, _/_, _%_, _≤_, _<_}
+use mathlib.Core.List.{List, map}
+use Prim.Native.Nat.{ℕ, _≤_, _<_}
 use native.Mathlib.Omega.{arith}
-use lib.ListN.{length, getD, take, drop, length-map, length-append}
+use lib.ListN.{length, getD, take, drop, length-map}
 use lib.Seq.{take-at, length-take-le}
 use lib.IntN.{ℤ}
-use Rattle.lattice.specs.Point.{InRange, most, points, point, Lists}
+use Rattle.lattice.specs.Point.{most, points, Lists}
 use Rattle.lattice.specs.Hull.{Of}
-use Rattle.lattice.specs.Refusal.{First, accepted, Gives, Whole, AtPoint, Repeats, Odd, OutOfRange, listRows, _when_else_}
-use Rattle.lattice.proofs.Numbers.{points-length}
+use Rattle.lattice.specs.Refusal.{accepted, Gives, AtPoint, Repeats, Odd, OutOfRange, listRows, _when_else_}
 use Rattle.lattice.proofs.Tables.{whole-first, whole-never}
 use Rattle.packed.specs.Packed.{cells, unpacked}
-use Rattle.sort.specs.Words.{keyOf, Marked, Sorts, LeastTwin}
+use Rattle.sort.specs.Words.{keyOf, Marked}
 use Rattle.order.specs.declared.Ordered.{Ordered}
-use Rattle.order.specs.Keys.{MarkedTo, KeysOf, Arranged, Finds}
+use Rattle.order.specs.Keys.{MarkedTo, Arranged, Finds}
 use Rattle.order.proofs.Sorting.{words-marked, first-repeat, no-repeat, keys-lists, keys-below}
 
 module _ (list : List ℤ) (keys : List ℕ) where

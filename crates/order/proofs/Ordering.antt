@@ -2,12 +2,11 @@
 use mathlib.Core.Path.{_≡_, refl, sym, _∙_, ap, subst}
 use mathlib.Core.Logic.{inl, inr}
 use mathlib.Core.List.{List, map}
-use Prim.Native.Nat.{ℕ, zero, suc, _≤_, _<_}
-use native.Mathlib.Omega.{arith}
+use Prim.Native.Nat.{ℕ, zero, suc}
 use lib.ListN.{length, take, length-map}
 use lib.Seq.{length-take-le}
 use lib.IntN.{ℤ}
-use Rattle.lattice.specs.Point.{points, Lists}
+use Rattle.lattice.specs.Point.{points}
 use Rattle.lattice.specs.Hull.{Of}
 use Rattle.lattice.specs.Refusal.{accepted, _when_else_, Gives, Whole, listRows}
 use Rattle.lattice.specs.Room.{holding, TooSmall}
@@ -17,7 +16,7 @@ use Rattle.lattice.proofs.Tables.{declined-before, passed-before, whole-first, 
 use Rattle.packed.specs.Packed.{unpacked}
 use Rattle.order.specs.declared.Ordered.{Ordered}
 use Rattle.order.specs.Order.{orderRows, OrderResult, OrderPromise}
-use Rattle.order.specs.Keys.{FindResult, Finds}
+use Rattle.order.specs.Keys.{Finds}
 
 module _ (list room : List ℤ) (keys : List ℕ) where
   pub order-declined : (number place count : ℕ) → (number ≡ 0 → ⊥) → Finds list (record { number = number; place = place; points = count }) keys

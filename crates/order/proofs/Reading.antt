@@ -8,7 +8,7 @@ use mir.Syntax.{w32}
 use mir.Val.{SFits, toZ, ofZ}
 use Rattle.lattice.specs.Point.{Point, points, point}
 use Rattle.lattice.proofs.HalfPlane.{point-equal}
-use Rattle.lattice.proofs.Numbers.{pair, points-at}
+use Rattle.lattice.proofs.Numbers.{points-at}
 use Rattle.packed.proofs.Tests.{read-back}
 
 -- the two numbers of the point at place i

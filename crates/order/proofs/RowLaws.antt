@@ -8,7 +8,7 @@ use borrow.Author.Count.{below-more}
 use lib.ListN.{length}
 use lib.IntN.{ℤ}
 use lib.Signed.{_≤ℤ_, _<ℤ_}
-use Rattle.whole.proofs.Whole.{quote, _<ᶻ_, gap≤, gap<, _⊞_, _⋆≡_, linear≤, linear<, le-or-lt, antisymmetric, le-of-equal}
+use Rattle.whole.proofs.Whole.{quote, gap≤, gap<, _⊞_, linear≤, linear<, le-or-lt, antisymmetric, le-of-equal}
 use Rattle.lattice.specs.Point.{Point, point, Pairs, Before, row, column}
 use Rattle.lattice.proofs.Lists.{either}
 use Rattle.lattice.proofs.Places.{lt-or-le, nowhere, pairs-place}

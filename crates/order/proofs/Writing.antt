@@ -1,13 +1,12 @@
 -- Laws of packed points written to the front of a room, one after the other. Assumes nothing.
-use mathlib.Core.Path.{_≡_, refl, sym, _∙_, ap}
+use mathlib.Core.Path.{_≡_, sym, _∙_, ap}
 use mathlib.Core.List.{List, [], _∷_, _++_, map, map-append}
 use Prim.Native.Nat.{ℕ, _+_, _*_, _≤_, _<_}
 use native.Mathlib.Numerals.{add-one}
 use native.Mathlib.Omega.{arith}
-use lib.ListN.{length, getD, take, set, length-map, length-set}
+use lib.ListN.{length, getD, take, set, length-map}
 use lib.Seq.{take-suc, take-all, length-take-le}
 use lib.IntN.{ℤ}
-use Rattle.lattice.specs.Point.{Point}
 use Rattle.lattice.specs.Room.{holding}
 use Rattle.lattice.proofs.Rooms.{holding-length, holding-next}
 use Rattle.packed.specs.Packed.{unpacked}

@@ -2,7 +2,7 @@
 use mathlib.Core.Path.{_≡_, refl, sym, _∙_, ap, subst}
 use mathlib.Core.Bool.{false}
 use mathlib.Core.List.{[], _∷_}
-use Prim.Native.Nat.{ℕ, suc, _^_, _/_, _%_, _≤_, _<_}
+use Prim.Native.Nat.{ℕ, suc, _/_, _%_, _≤_, _<_}
 use native.Mathlib.Omega.{arith}
 use borrow.Author.Tests.{le-ltb}
 use lib.Dec.{T, ltb, leb→le, le→leb}
@@ -11,9 +11,10 @@ use lib.Signed.{_≤ℤ_, nonNeg}
 use mir.Syntax.{w32, w64}
 use mir.Val.{Fits, SFits, toZ, ofZ}
 use mir.ValLaws.{toZ-ofZ, toZ-pos}
-use Rattle.whole.proofs.Whole.{ring, quote, _≤ᶻ_, natural, gap≤, _⊞_, linear≤}
+use Rattle.whole.proofs.Whole.{quote, _≤ᶻ_, natural, gap≤, _⊞_, linear≤}
 use Rattle.lattice.specs.Point.{Point, least, greatest}
 use Rattle.lattice.specs.Hull.{turn}
+use Rattle.lattice.proofs.Turn.{turn-translated}
 use Rattle.packed.specs.Packed.{offset, side, cells, moved, placed, unpacked, Within}
 use Rattle.packed.proofs.Small.{within-fits}
 
@@ -80,12 +81,6 @@ module _ (n : ℕ) (h : n < side) where
   wide-within = subst (Within side) (sym wide) natural-within
 
 -- ---- the turn of unpacked points is that of their natural coordinates
-turn-moved : (ax ay bx by cx cy : ℤ)
-    → turn (record { x = ax; y = ay }) (record { x = bx; y = by }) (record { x = cx; y = cy })
-    ≡ turn (record { x = ax -ℤ pos 8192; y = ay -ℤ pos 8192 }) (record { x = bx -ℤ pos 8192; y = by -ℤ pos 8192 })
-    (record { x = cx -ℤ pos 8192; y = cy -ℤ pos 8192 })
-turn-moved ax ay bx by cx cy = ring (ax ∷ ay ∷ bx ∷ by ∷ cx ∷ cy ∷ []) (search quote depth 20) tt
-
 -- the natural coordinates of a packed point, as the machine has them
 abbrev pub wide-point : ℕ → Point
 wide-point k = record { x = toZ w64 (k % side); y = toZ w64 (k / side) }
@@ -118,4 +113,4 @@ turn-wide a b c f g h =
     let q = wide-natural b g in
     let r = wide-natural c h in
     (λ i. turn (p i) (q i) (r i))
-    ∙ turn-moved (pos (a % side)) (pos (a / side)) (pos (b % side)) (pos (b / side)) (pos (c % side)) (pos (c / side))
+    ∙ sym (turn-translated (negℤ (pos offset)) (negℤ (pos offset)) (natural-point a) (natural-point b) (natural-point c))

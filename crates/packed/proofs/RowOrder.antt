@@ -1,12 +1,11 @@
 -- Row order is the order of packed points, packing and unpacking undo one another, and what is unpacked is in range. Assumes nothing.
-use mathlib.Core.Path.{_≡_, refl, sym, _∙_, ap, subst₂}
+use mathlib.Core.Path.{_≡_, sym, _∙_, ap, subst₂}
 use mathlib.Core.List.{[], _∷_}
-use Prim.Native.Nat.{ℕ, _+_, _*_, _/_, _%_, _≤_, _<_}
+use Prim.Native.Nat.{ℕ, _+_, _/_, _%_, _≤_, _<_}
 use native.Mathlib.Omega.{arith}
-use lib.Dec.{leb→le, ltb→lt, le→leb, lt→ltb}
+use lib.Dec.{ltb→lt, le→leb, lt→ltb}
 use lib.IntN.{ℤ, pos, natAbs, _+ℤ_, _-ℤ_}
-use lib.Signed.{_≤ℤ_, _<ℤ_}
-use Rattle.whole.proofs.Whole.{ring, quote, _≤ᶻ_, _<ᶻ_, NonNegative, natural, gap≤, gap<, _⊞_, _⋆≡_, linear≤, linear<, linear≡, _∗≡_}
+use Rattle.whole.proofs.Whole.{ring, quote, _≤ᶻ_, _<ᶻ_, NonNegative, natural, gap≤, gap<, linear≤, linear<, linear≡, _∗≡_}
 use Rattle.lattice.specs.Point.{Point, InRange, Before, row, column}
 use Rattle.lattice.proofs.Lists.{either}
 use Rattle.lattice.proofs.HalfPlane.{point-equal}

@@ -1,11 +1,10 @@
 -- Sums and products of numbers that are small by magnitude are small, and what is small fits. Assumes nothing.
-use mathlib.Core.Path.{_≡_, refl, sym, subst}
 use mathlib.Core.List.{[], _∷_}
 use Prim.Native.Nat.{ℕ, zero, suc, _+_, _*_, _^_, _≤_, _<_}
 use native.Mathlib.Omega.{arith}
 use lib.Dec.{leb→le}
-use lib.IntN.{ℤ, pos, negsuc, negℤ, _+ℤ_, _*ℤ_, _-ℤ_}
-use lib.Signed.{_≤ℤ_, mag}
+use lib.IntN.{ℤ, pos, negsuc, _*ℤ_, _-ℤ_}
+use lib.Signed.{mag}
 use mir.Syntax.{Width, w64}
 use mir.Val.{SFits, hbits}
 use Rattle.whole.proofs.Whole.{quote, natural, gap≤, _⊞_, _⊠_, linear≤, le-of-doubles}

@@ -3,12 +3,10 @@ use mathlib.Core.Path.{_≡_, sym, _∙_, ap, subst}
 use mathlib.Core.Bool.{Bool, true, false, not}
 use lib.Dec.{T}
 use lib.IntN.{ℤ}
-use lib.Signed.{_≤ℤ_, _<ℤ_, leZ, ltZ, ltZ-no}
+use lib.Signed.{_≤ℤ_, _<ℤ_, ltZ, ltZ-no}
 use mir.Syntax.{w32}
 use mir.Val.{SFits, toZ, ofZ}
 use mir.ValLaws.{toZ-ofZ}
-use Rattle.whole.proofs.Whole.{le-or-lt}
-use Rattle.lattice.proofs.Lists.{either}
 use Rattle.packed.specs.Packed.{Tells}
 
 pub lt-yes : {a b : ℤ} → ltZ a b ≡ true → a <ℤ b
@@ -16,12 +14,6 @@ lt-yes e = record { lt = subst T (sym e) tt }
 
 pub lt-no : {a b : ℤ} → ltZ a b ≡ false → b ≤ℤ a
 lt-no e = ltZ-no (subst (λ t. T (not t)) (sym e) tt)
-
-pub le-yes : {a b : ℤ} → leZ a b ≡ true → a ≤ℤ b
-le-yes e = record { le = subst T (sym e) tt }
-
-pub le-no : {a b : ℤ} → leZ a b ≡ false → b <ℤ a
-le-no {a} {b} e = either (le-or-lt a b) (λ h. absurd (subst T e (h .le))) (λ h. h)
 
 -- a signed number read back from the machine's bits
 pub read-back : (z : ℤ) → SFits w32 z → toZ w32 (ofZ w32 z) ≡ z

@@ -105,11 +105,3 @@ pub fn left(a: u32, b: u32, c: u32) -> bool
 {
     turn(a, b, c) > 0
 }
-
-// Whether c lies to the left of the line from a to b, or on it.
-pub fn left_or_on(a: u32, b: u32, c: u32) -> bool
-    requires { ⌜ (a < cells) × (b < cells) × (c < cells) ⌝ }
-    ensures { λ r. ⌜ r ≡ leZ (pos 0) (turnOf (unpacked a) (unpacked b) (unpacked c)) ⌝ }
-{
-    turn(a, b, c) >= 0
-}

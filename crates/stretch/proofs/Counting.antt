@@ -1,12 +1,12 @@
 -- How many columns a division leaves, and which columns an edge leaves of a row, in natural numbers. Assumes nothing.
-use mathlib.Core.Path.{_≡_, refl, sym, _∙_, ap, subst}
+use mathlib.Core.Path.{_≡_, sym, _∙_, ap, subst}
 use mathlib.Core.List.{[], _∷_}
 use Prim.Native.Nat.{ℕ, _+_, _*_, _-_, _/_, _%_, _≤_, _<_}
 use native.Mathlib.Nat.{mul-comm, add-mul, mul-le-mul-right, le-div-iff-mul-le}
 use native.Mathlib.Omega.{arith}
 use lib.Dec.{leb→le, le→leb}
-use lib.IntN.{ℤ, pos, _+ℤ_, _-ℤ_, _*ℤ_}
-use Rattle.whole.proofs.Whole.{quote, _≤ᶻ_, NonNegative, gap≤, linear≤}
+use lib.IntN.{pos}
+use Rattle.whole.proofs.Whole.{quote, _≤ᶻ_, gap≤, linear≤}
 use Rattle.lattice.specs.Point.{Before}
 use Rattle.lattice.proofs.Lists.{either}
 use Rattle.lattice.proofs.Places.{lt-or-le}

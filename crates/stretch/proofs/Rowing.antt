@@ -1,5 +1,5 @@
 -- What all edges leave of a row is what lies in the hull. Assumes nothing.
-use mathlib.Core.Path.{_≡_, refl, sym, _∙_, ap, subst, subst₂}
+use mathlib.Core.Path.{_≡_, sym, _∙_, ap, subst, subst₂}
 use mathlib.Core.Logic.{_↔_}
 use mathlib.Core.List.{List, map}
 use Prim.Native.Nat.{ℕ, suc, _+_, _-_, _≤_, _<_}
@@ -16,7 +16,7 @@ use Rattle.lattice.proofs.Polygon.{InsideEnds, polygon-by-ends}
 use Rattle.packed.specs.Packed.{side, cells, unpacked}
 use Rattle.packed.proofs.RowOrder.{unpacked-before}
 use Rattle.packed.proofs.KeyLaws.{unpacked-at, unpacked-in, in-unpacked}
-use Rattle.stretch.specs.Stretch.{cell, Within, Keeps, LeftOf, Rowed, StretchOf}
+use Rattle.stretch.specs.Stretch.{cell, Keeps, LeftOf, Rowed, StretchOf}
 use Rattle.stretch.specs.declared.Stretch.{Stretch}
 use Rattle.stretch.proofs.Counting.{keeps-as, keeps-both}
 

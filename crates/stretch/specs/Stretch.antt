@@ -5,7 +5,7 @@ use Prim.Native.Nat.{ℕ, _*_, _/_, _≤_, _<_}
 use lib.ListN.{length, getD}
 use lib.IntN.{pos}
 use lib.Signed.{_≤ℤ_}
-use Rattle.lattice.specs.Point.{Point, Before}
+use Rattle.lattice.specs.Point.{Point}
 use Rattle.lattice.specs.Hull.{turn, InHull, Of, CornerList}
 use Rattle.packed.specs.Packed.{side, cells, placed, unpacked}
 use Rattle.stretch.specs.declared.Stretch.{Stretch}

@@ -2,31 +2,7 @@
 -- Assumes nothing.
 use mathlib.Core.Path.{_≡_, refl, sym, _∙_, ap}
 use Prim.Native.Nat.{ℕ, zero, suc, _*_}
-use lib.IntN.{
-  ℤ,
-  pos,
-  negsuc,
-  sucℤ,
-  predℤ,
-  negℤ,
-  one,
-  _+ℤ_,
-  _*ℤ_,
-  _-ℤ_,
-  +ℤ-assoc,
-  +ℤ-comm,
-  +ℤ-idl,
-  +ℤ-idr,
-  +ℤ-invl,
-  sucℤ-+ℤ,
-  predℤ-+ℤ,
-  sucℤ-*ℤ,
-  predℤ-*ℤ,
-  zero-*ℤ,
-  *ℤ-comm,
-  *ℤ-one,
-  negℤ-negℤ,
-}
+use lib.IntN.{ℤ, pos, negsuc, sucℤ, predℤ, negℤ, one, _+ℤ_, _*ℤ_, _-ℤ_, +ℤ-assoc, +ℤ-comm, +ℤ-idl, +ℤ-idr, +ℤ-invl, sucℤ-+ℤ, predℤ-+ℤ, sucℤ-*ℤ, predℤ-*ℤ, zero-*ℤ, *ℤ-comm, *ℤ-one, negℤ-negℤ}
 
 -- ---- sums regrouped
 +ℤ-right-comm : (a b c : ℤ) → a +ℤ b +ℤ c ≡ a +ℤ c +ℤ b

@@ -8,32 +8,9 @@ use Prim.Native.Nat.{ℕ, zero, suc}
 use native.Mathlib.Omega.{arith}
 use lib.Dec.{lt→ltb}
 use lib.IntN.{ℤ, pos, negsuc, negℤ, _+ℤ_, _*ℤ_, _-ℤ_, +ℤ-invr, *ℤ-zero}
-use Rattle.whole.proofs.Polynomial.{
-  Expression,
-  constant,
-  _⊕_,
-  _⊖_,
-  value,
-  normal,
-  NotNegative,
-  Vanishes,
-  natural-value,
-  same-value,
-}
+use Rattle.whole.proofs.Polynomial.{Expression, constant, _⊕_, _⊖_, value, normal, NotNegative, Vanishes, natural-value, same-value}
 use Rattle.whole.proofs.Quote.{Is, expression, quoted, ring, quote}
-use Rattle.whole.proofs.Order.{
-  _≤ᶻ_,
-  _<ᶻ_,
-  NonNegative,
-  Positive,
-  natural,
-  sum-nonnegative,
-  product-nonnegative,
-  gap≤,
-  gap<,
-  by-gap≤,
-  by-gap<,
-}
+use Rattle.whole.proofs.Order.{_≤ᶻ_, _<ᶻ_, NonNegative, Positive, natural, sum-nonnegative, product-nonnegative, gap≤, gap<, by-gap≤, by-gap<}
 
 -- ---- putting certificates together
 infixr 3 _⊞_

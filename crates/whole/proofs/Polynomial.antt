@@ -4,34 +4,8 @@ use mathlib.Core.Path.{_≡_, refl, sym, _∙_, ap}
 use mathlib.Core.List.{List, [], _∷_}
 use Prim.Native.Nat.{ℕ, zero, suc, _+_, _*_, compare, Ordering, Ordering·lt, Ordering·eq, Ordering·gt}
 use lib.Dec.{T, isEq, eqb→eq}
-use lib.IntN.{
-  ℤ,
-  pos,
-  negsuc,
-  negℤ,
-  _+ℤ_,
-  _*ℤ_,
-  _-ℤ_,
-  +ℤ-assoc,
-  +ℤ-idl,
-  +ℤ-idr,
-  zero-*ℤ,
-  *ℤ-comm,
-  *ℤ-zero,
-  negℤ-+ℤ,
-}
-use Rattle.whole.proofs.Laws.{
-  +ℤ-left-comm,
-  +ℤ-swap,
-  *ℤ-distr-r,
-  *ℤ-distr-l,
-  neg-*ℤ,
-  *ℤ-assoc,
-  *ℤ-left-comm,
-  *ℤ-swap,
-  one-*ℤ,
-  equal-of-difference,
-}
+use lib.IntN.{ℤ, pos, negsuc, negℤ, _+ℤ_, _*ℤ_, +ℤ-assoc, +ℤ-idl, +ℤ-idr, zero-*ℤ, *ℤ-comm, *ℤ-zero, negℤ-+ℤ}
+use Rattle.whole.proofs.Laws.{+ℤ-left-comm, +ℤ-swap, *ℤ-distr-r, *ℤ-distr-l, neg-*ℤ, *ℤ-assoc, *ℤ-left-comm, *ℤ-swap, one-*ℤ, equal-of-difference}
 
 -- ---- expressions
 infixl 6 _⊕_

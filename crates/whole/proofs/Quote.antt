@@ -1,24 +1,11 @@
 -- Quotation: `Is ρ z` says that the whole number z is the value of an expression over ρ. `search quote depth 20` finds the expression from
 -- z's own text: each number of ρ is a variable, wherever it stands. Assumes nothing.
 use mathlib.Core.Path.{_≡_, refl, sym, _∙_}
-use mathlib.Core.List.{List, [], _∷_}
+use mathlib.Core.List.{List, _∷_}
 use Prim.Native.Nat.{ℕ, suc, _+_, _*_}
 use lib.Dec.{T, eqb}
 use lib.IntN.{ℤ, pos, negsuc, negℤ, _+ℤ_, _*ℤ_, _-ℤ_}
-use Rattle.whole.proofs.Polynomial.{
-  Expression,
-  variable,
-  constant,
-  _⊕_,
-  _⊗_,
-  ⊝,
-  _⊖_,
-  value,
-  at,
-  normal,
-  Vanishes,
-  same-value,
-}
+use Rattle.whole.proofs.Polynomial.{Expression, variable, constant, _⊕_, _⊗_, ⊝, _⊖_, value, at, normal, Vanishes, same-value}
 
 -- ---- a number of the list, by its place
 pub data Atom (ρ : List ℤ) (z : ℤ) : Type 0 where

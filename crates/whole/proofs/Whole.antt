@@ -21,10 +21,9 @@
 --
 -- The laws below are the worked examples. Assumes nothing.
 use mathlib.Core.Path.{_≡_, sym, subst}
-use mathlib.Core.Logic.{_⊎_, inl, inr}
 use mathlib.Core.List.{[], _∷_}
 use native.Mathlib.Omega.{arith}
-use lib.IntN.{ℤ, pos, negsuc, negℤ, _+ℤ_, _*ℤ_, _-ℤ_}
+use lib.IntN.{ℤ, pos, _+ℤ_, _*ℤ_, _-ℤ_}
 pub use Rattle.whole.proofs.Quote.{ring, quote, Is, expression}
 pub use Rattle.whole.proofs.Order.{_≤ᶻ_, _<ᶻ_, NonNegative, Positive, natural, square-nonnegative, gap≤, gap<}
 pub use Rattle.whole.proofs.Linear.{

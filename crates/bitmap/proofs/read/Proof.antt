@@ -13,20 +13,7 @@ use Rattle.bitmap.specs.Header.{headerOf}
 use Rattle.bitmap.specs.Pixels.{Raster, plainAt}
 use Rattle.bitmap.specs.Picture.{longest, beginsP1, rastered, readingOf}
 use Rattle.bitmap.specs.Steps.{counted}
-use Rattle.bitmap.proofs.Pictures.{
-  begins-long,
-  too-long,
-  no-begin,
-  bad-header,
-  to-raster,
-  raster-fault,
-  too-many,
-  a-picture,
-  an-answer,
-  pixel-count,
-  writable,
-  promised,
-}
+use Rattle.bitmap.proofs.Pictures.{begins-long, too-long, no-begin, bad-header, to-raster, raster-fault, too-many, a-picture, an-answer, pixel-count, writable, promised}
 use Rattle.bitmap.proofs.read.Statement.{statement}
 use Rattle.bitmap.proofs.read.Tie as tie
 

@@ -12,16 +12,7 @@ use Rattle.lattice.specs.Point.{most}
 use Rattle.bitmap.specs.Pixels.{Raster, onto, plainAt}
 use Rattle.bitmap.specs.Steps.{Fetches}
 use Rattle.bitmap.proofs.Plain.{none-left}
-use Rattle.bitmap.proofs.Writing.{
-  Writing,
-  writing-none,
-  writing-black,
-  writing-white,
-  writing-fault,
-  writing-length,
-  writing-ends,
-  room-left,
-}
+use Rattle.bitmap.proofs.Writing.{Writing, writing-none, writing-black, writing-white, writing-fault, writing-length, writing-ends, room-left}
 use Rattle.bitmap.proofs.write_points.Statement.{statement}
 use Rattle.bitmap.proofs.write_points.Tie as tie
 

@@ -1,11 +1,10 @@
 -- `hull::climb` meets its contract: a turn of the loop passes one row more. Assumes nothing.
-use Prim.Native.Nat.{ℕ, suc, _≤_, _<_, _+_, _-_}
-use mathlib.Core.Path.{_≡_, refl, sym, _∙_, ap, subst}
+use Prim.Native.Nat.{_-_}
+use mathlib.Core.Path.{_≡_, refl, _∙_}
 use native.Mathlib.Omega.{arith}
 use denote.Ref.{now}
-use lib.ListN.{length, getD, set, length-set}
+use lib.ListN.{length, length-set}
 use lib.Seq.{getD-set-same}
-use Rattle.hull.specs.Scanning.{RowTo}
 use Rattle.hull.proofs.Climbing.{Climbing, climbing-start, climbing-row, climbing-pushable, climbing-push, climbing-end}
 use Rattle.hull.proofs.climb.Statement.{statement}
 use Rattle.hull.proofs.climb.Tie as tie

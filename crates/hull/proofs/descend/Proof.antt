@@ -1,10 +1,8 @@
 -- `hull::descend` meets its contract: a turn of the loop passes one row more. Assumes nothing.
-use Prim.Native.Nat.{ℕ, suc, _≤_, _<_, _+_, _-_}
-use mathlib.Core.Path.{_≡_, refl, sym, _∙_, ap, subst}
+use Prim.Native.Nat.{_-_}
+use mathlib.Core.Path.{_≡_, refl, _∙_}
 use native.Mathlib.Omega.{arith}
-use denote.Ref.{now}
-use lib.ListN.{length, getD}
-use Rattle.hull.specs.Scanning.{RowFrom}
+use lib.ListN.{length}
 use Rattle.hull.proofs.Climbing.{Descending, descending-start, descending-row, descending-pushable, descending-push, descending-end}
 use Rattle.hull.proofs.descend.Statement.{statement}
 use Rattle.hull.proofs.descend.Tie as tie
@@ -26,7 +24,7 @@ loop-holds c = let a = c .before .before in
     (refl, descending-start _ _ _ (omega (arith, a .pre .0 .some)) (a .pre .1))
 
 row-begin-requires : tie.Need-row-begin-requires Inv-loop μ-loop
-row-begin-requires c κs = (c .loop-test .taken, omega (arith, c .before .loop .inv .1 .upto))
+row-begin-requires c κs = (omega (arith, c .loop-test .taken), omega (arith, c .before .loop .inv .1 .upto))
 
 mul-push-first : tie.Need-mul-push-first Inv-loop μ-loop
 mul-push-first c = omega arith

@@ -1,9 +1,9 @@
 -- `hull::push` meets its contract: a turn of the loop pops one point more. Assumes nothing.
-use Prim.Native.Nat.{ℕ, suc, _≤_, _<_, _+_, _-_}
+use Prim.Native.Nat.{_<_, _-_}
 use mathlib.Core.Path.{_≡_, sym, _∙_, ap, subst}
 use native.Mathlib.Omega.{arith}
 use denote.Ref.{now}
-use lib.ListN.{length, getD, length-set}
+use lib.ListN.{length, length-set}
 use lib.IntN.{pos}
 use lib.Signed.{_<ℤ_}
 use Rattle.lattice.specs.Hull.{turn}

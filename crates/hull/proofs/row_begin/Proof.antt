@@ -1,9 +1,6 @@
 -- `hull::row_begin` meets its contract: a turn of the loop takes one point more. Assumes nothing.
-use Prim.Native.Nat.{ℕ, _+_, _-_, _<_, _≤_}
-use mathlib.Core.Path.{_≡_}
+use Prim.Native.Nat.{_-_}
 use native.Mathlib.Omega.{arith}
-use denote.Ref.{now}
-use lib.ListN.{length}
 use Rattle.hull.proofs.Rows.{Running, running-one, running-back, row-from}
 use Rattle.hull.proofs.row_begin.Statement.{statement}
 use Rattle.hull.proofs.row_begin.Tie as tie

@@ -1,8 +1,6 @@
 -- `hull::row_end` meets its contract: a turn of the loop takes one point more. Assumes nothing.
-use Prim.Native.Nat.{ℕ, _+_, _-_, _<_, _≤_}
-use mathlib.Core.Path.{_≡_}
+use Prim.Native.Nat.{_-_}
 use native.Mathlib.Omega.{arith}
-use denote.Ref.{now}
 use lib.ListN.{length}
 use Rattle.hull.proofs.Rows.{Running, running-one, running-on, row-to}
 use Rattle.hull.proofs.row_end.Statement.{statement}

@@ -1,11 +1,7 @@
 -- `hull::scan` meets its contract: the way up and the way down, or fewer than two points. Assumes nothing.
-use Prim.Native.Nat.{_*_, _<_, _≤_}
-use mathlib.Core.Path.{_≡_, _∙_}
 use native.Mathlib.Omega.{arith}
 use borrow.Author.Needs.{needs}
 use denote.Ref.{now}
-use lib.ListN.{length}
-use Rattle.hull.specs.Scanning.{Scannable}
 use Rattle.hull.proofs.Climbing.{cornered-none, cornered-one}
 use Rattle.hull.proofs.scan.Statement.{statement}
 use Rattle.hull.proofs.scan.Tie as tie

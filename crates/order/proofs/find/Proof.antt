@@ -1,6 +1,6 @@
 -- `order::find` meets its contract: each way out is a row of the table, or the points in row order. Assumes nothing.
-use Prim.Native.Nat.{ℕ, _/_, _≤_, _<_}
-use mathlib.Core.Path.{_≡_, refl, sym, _∙_, subst}
+use Prim.Native.Nat.{ℕ, _/_, _≤_}
+use mathlib.Core.Path.{_≡_, sym, subst}
 use mathlib.Core.List.{List, []}
 use native.Mathlib.Omega.{arith}
 use borrow.Author.Needs.{needs}
@@ -11,7 +11,7 @@ use lib.IntN.{ℤ}
 use Rattle.lattice.specs.Point.{most, points}
 use Rattle.lattice.specs.Refusal.{Odd}
 use Rattle.lattice.proofs.Numbers.{points-length}
-use Rattle.order.specs.Keys.{MarkedTo, Finds}
+use Rattle.order.specs.Keys.{MarkedTo}
 use Rattle.order.proofs.Finding.{finds-odd, finds-many, finds-outside, marks, finds-repeat, finds-all, finds-as}
 use Rattle.order.proofs.find.Statement.{statement}
 use Rattle.order.proofs.find.Tie as tie

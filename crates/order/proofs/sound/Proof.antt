@@ -1,5 +1,4 @@
 -- `order::sound` meets its contract: the three tests are those of the definition. Assumes nothing.
-use Prim.Native.Nat.{_≤_}
 use native.Mathlib.Omega.{arith}
 use borrow.Author.Needs.{needs}
 use denote.Ref.{now}

@@ -1,9 +1,9 @@
 -- `order::write` meets its contract: a turn of the loop writes one point more. Assumes nothing.
-use Prim.Native.Nat.{ℕ, _≤_, _<_, _+_, _*_, _-_}
+use Prim.Native.Nat.{_-_}
 use mathlib.Core.Path.{_≡_, refl, _∙_}
 use native.Mathlib.Omega.{arith}
 use denote.Ref.{now}
-use lib.ListN.{length, getD, length-set}
+use lib.ListN.{length, length-set}
 use Rattle.packed.proofs.Tests.{read-back}
 use Rattle.order.proofs.Writing.{Writing, writing-length, writing-more, writing-ends}
 use Rattle.order.proofs.write.Statement.{statement}

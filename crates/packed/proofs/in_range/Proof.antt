@@ -1,6 +1,5 @@
 -- `packed::in_range` meets its contract: the four comparisons. Assumes nothing.
 use lib.Signed.{clashℤ}
-use lib.IntN.{pos}
 use Rattle.lattice.specs.Point.{least, greatest}
 use Rattle.packed.proofs.Tests.{lt-yes, lt-no, read-lt, read-gt}
 use Rattle.packed.proofs.in_range.Statement.{statement}

@@ -1,6 +1,4 @@
 -- `packed::moved` meets its contract: the laws of the border. Assumes nothing.
-use mir.Val.{SFits}
-use mir.Syntax.{w32}
 use Rattle.packed.proofs.Border.{moved-fits, moved-cast, moved-result, moved-small}
 use Rattle.packed.proofs.moved.Statement.{statement}
 use Rattle.packed.proofs.moved.Tie as tie

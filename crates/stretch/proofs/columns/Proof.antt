@@ -1,5 +1,4 @@
 -- `stretch::columns` meets its contract: a division by the steepness. Assumes nothing.
-use native.Mathlib.Omega.{arith}
 use borrow.Author.Needs.{needs}
 use Rattle.stretch.proofs.Counting.{columns-some, columns-all}
 use Rattle.stretch.proofs.columns.Statement.{statement}

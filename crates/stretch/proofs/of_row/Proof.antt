@@ -1,9 +1,8 @@
 -- `stretch::of_row` meets its contract: a turn of the loop looks at one edge more. Assumes nothing.
-use Prim.Native.Nat.{ℕ, _+_, _-_, _<_, _≤_}
-use mathlib.Core.Path.{_≡_}
+use Prim.Native.Nat.{_-_}
 use native.Mathlib.Omega.{arith}
 use denote.Ref.{now}
-use lib.ListN.{length, getD}
+use lib.ListN.{length}
 use Rattle.stretch.proofs.Rowing.{Narrowing, narrowing-start, narrowing-more, narrowing-end, last-small, row-small}
 use Rattle.stretch.proofs.of_row.Statement.{statement}
 use Rattle.stretch.proofs.of_row.Tie as tie

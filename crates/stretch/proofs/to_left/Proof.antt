@@ -1,5 +1,4 @@
 -- `stretch::to_left` meets its contract: a falling edge leaves what lies to its right. Assumes nothing.
-use native.Mathlib.Omega.{arith}
 use borrow.Author.Needs.{needs}
 use Rattle.stretch.proofs.Counting.{left-some}
 use Rattle.stretch.proofs.to_left.Statement.{statement}

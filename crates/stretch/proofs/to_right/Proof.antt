@@ -1,5 +1,4 @@
 -- `stretch::to_right` meets its contract: a rising edge leaves what lies to its left. Assumes nothing.
-use native.Mathlib.Omega.{arith}
 use borrow.Author.Needs.{needs}
 use Rattle.stretch.proofs.Counting.{right-none, right-some}
 use Rattle.stretch.proofs.to_right.Statement.{statement}
