@@ -3,7 +3,7 @@ use mathlib.Core.Path.{_≡_, refl, sym, _∙_, ap}
 use mathlib.Core.List.{List, [], _∷_, _++_}
 use Prim.Native.Nat.{ℕ, zero, suc, _+_, _*_, _/_, _<_}
 use native.Mathlib.Omega.{arith}
-use lib.ListN.{length, getD}
+use lib.ListN.{length, getD, take, drop}
 use lib.IntN.{ℤ, pos}
 use Rattle.lattice.specs.Point.{Point, points, point}
 use Rattle.lattice.specs.Room.{numbers}
@@ -47,3 +47,19 @@ numbers-append (p ∷ l) m = ap (λ a. p .x ∷ p .y ∷ a) (numbers-append l m)
 pub points-numbers : (l : List Point) → points (numbers l) ≡ l
 points-numbers [] = refl
 points-numbers (p ∷ l) = ap (λ m. p ∷ m) (points-numbers l)
+
+-- the points of a part of the list are a part of its points
+twice : (n : ℕ) → 2 * suc n ≡ suc (suc (2 * n))
+twice n = omega arith
+
+pub points-drop : (n : ℕ) (a : List ℤ) → points (drop (2 * n) a) ≡ drop n (points a)
+points-drop zero a = refl
+points-drop (suc n) [] = ap (λ m. points (drop m [])) (twice n)
+points-drop (suc n) (x ∷ []) = ap (λ m. points (drop m (x ∷ []))) (twice n)
+points-drop (suc n) (x ∷ y ∷ a) = ap (λ m. points (drop m (x ∷ y ∷ a))) (twice n) ∙ points-drop n a
+
+pub points-take : (n : ℕ) (a : List ℤ) → points (take (2 * n) a) ≡ take n (points a)
+points-take zero a = refl
+points-take (suc n) [] = ap (λ m. points (take m [])) (twice n)
+points-take (suc n) (x ∷ []) = ap (λ m. points (take m (x ∷ []))) (twice n)
+points-take (suc n) (x ∷ y ∷ a) = ap (λ m. points (take m (x ∷ y ∷ a))) (twice n) ∙ ap (λ l. record { x = x; y = y } ∷ l) (points-take n a)

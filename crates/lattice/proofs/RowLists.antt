@@ -4,7 +4,7 @@ use mathlib.Core.Path.{_≡_, refl, sym, ap}
 use mathlib.Core.Logic.{inl, inr}
 use mathlib.Core.Bool.{Bool, true, false, not, cond}
 use mathlib.Core.List.{List, [], _∷_}
-use Prim.Native.Nat.{ℕ, suc, _+_}
+use Prim.Native.Nat.{ℕ, suc, _+_, _≤_}
 use native.Mathlib.Omega.{arith}
 use lib.ListN.{length}
 use lib.IntN.{ℤ, pos, negℤ, _+ℤ_}
@@ -64,6 +64,14 @@ module _ (P Q : Point → Type 0) (d : (p : Point) → Decided (Q p)) (l : List 
     only = λ p m. let r = keep-in Q d l p m in (h .only p (r .0), r .1);
     order = pairs-keep Q d Before l (h .order);
   }
+
+-- where Q follows from P, a list of the points with P is no longer than one of those with Q
+pub lists-fewer : (P Q : Point → Type 0) → ((p : Point) → P p → Q p) → (l m : List Point) → Lists P l → Lists Q m → length l ≤ length m
+lists-fewer P Q f l m h g =
+    let e = ap length (lists-unique P l (keep (Of l) (λ p. in? p l) m) h
+    (lists-same (λ p. Q p × In p l) P (λ p i. h .only p (i .1)) (λ p i. (f p i, h .every p i)) (keep (Of l) (λ p. in? p l) m)
+    (lists-keep Q (Of l) (λ p. in? p l) m g))) in
+    omega (arith, e, keep-length (Of l) (λ p. in? p l) m)
 
 -- the points with P are those with Q and those without
 pub lists-split : (P Q : Point → Type 0) → ((p : Point) → Decided (Q p)) → (l m n : List Point)

@@ -1,11 +1,11 @@
 -- Lists with the same members: two that are in one strict order are equal, and so are two of a corner list's shape. Assumes nothing.
 use mathlib.Core.Path.{_≡_, refl, sym, _∙_, subst}
-use mathlib.Core.Logic.{inl, inr}
-use mathlib.Core.List.{List, [], _∷_}
+use mathlib.Core.Logic.{_⊎_, inl, inr}
+use mathlib.Core.List.{List, [], _∷_, _++_}
 use Rattle.whole.proofs.Whole.{quote, gap<, _⊞_, linear⊥}
 use Rattle.lattice.specs.Point.{Point, In, All, Pairs, Before, Lists}
 use Rattle.lattice.proofs.Turn.{coordinates, Left}
-use Rattle.lattice.proofs.Lists.{either, all-in}
+use Rattle.lattice.proofs.Lists.{either, all-in, in-left, in-right, in-cases, pairs-append}
 use Rattle.lattice.proofs.RowOrder.{before-asymmetric}
 use Rattle.lattice.proofs.Shape.{Shape}
 
@@ -50,6 +50,18 @@ lists-unique P l m h g =
 pub lists-same : (P Q : Point → Type 0) → ((p : Point) → P p → Q p) → ((p : Point) → Q p → P p)
     → (l : List Point) → Lists P l → Lists Q l
 lists-same P Q f g l h = record { every = λ p m. h .every p (g p m); only = λ p m. f p (h .only p m); order = h .order }
+
+-- one point, and a list before another
+pub lists-one : (a : Point) → Lists (λ p. p ≡ a) (a ∷ [])
+lists-one a = record { every = λ p e. inl e; only = λ p m. either m (λ e. e) (λ n. absurd n); order = (tt, tt) }
+
+pub lists-append : (P Q R : Point → Type 0) → ((p : Point) → R p → P p ⊎ Q p) → ((p : Point) → P p → R p) → ((p : Point) → Q p → R p)
+    → ((p q : Point) → P p → Q q → Before p q) → (l m : List Point) → Lists P l → Lists Q m → Lists R (l ++ m)
+lists-append P Q R split left right order l m h g = record {
+  every = λ p r. either (split p r) (λ i. in-left p l m (h .every p i)) (λ i. in-right p l m (g .every p i));
+  only = λ p i. either (in-cases p l m i) (λ j. left p (h .only p j)) (λ j. right p (g .only p j));
+  order = pairs-append Before l m (h .order) (g .order) (λ a b i j. order a b (h .only a i) (g .only b j));
+}
 
 -- ---- lists of a corner list's shape
 turns-asymmetric : (o a b : Point) → Left o a b → Left o b a → ⊥

@@ -2,7 +2,6 @@
 pub mod Marking
 pub mod Writing
 pub mod InOrder
-pub mod Reading
 pub mod RowLaws
 pub mod Pinned
 pub mod Sorting

@@ -4,3 +4,4 @@ pub mod Border
 pub mod Tests
 pub mod RowOrder
 pub mod KeyLaws
+pub mod Reading

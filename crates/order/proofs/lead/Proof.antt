@@ -13,7 +13,7 @@ use Rattle.lattice.specs.Point.{Point, points, point}
 use Rattle.lattice.proofs.Numbers.{points-length}
 use Rattle.packed.proofs.Tests.{lt-yes, lt-no, read-back}
 use Rattle.order.specs.Row.{LeadsTo}
-use Rattle.order.proofs.Reading.{row-at, read-row}
+use Rattle.packed.proofs.Reading.{row-at, read-row}
 use Rattle.order.proofs.RowLaws.{Leading, leading-none, leading-more, leading-stops}
 use Rattle.order.proofs.lead.Statement.{statement}
 use Rattle.order.proofs.lead.Tie as tie

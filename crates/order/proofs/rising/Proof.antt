@@ -10,7 +10,7 @@ use Rattle.lattice.specs.Point.{InRange, points, point}
 use Rattle.lattice.proofs.Numbers.{points-length}
 use Rattle.packed.specs.Packed.{packed}
 use Rattle.packed.proofs.Tests.{tells-yes, tells-no}
-use Rattle.order.proofs.Reading.{read-at, read-point}
+use Rattle.packed.proofs.Reading.{read-at, read-point}
 use Rattle.order.proofs.InOrder.{Rising, rising-none, rising-more, rising-breaks, rising-leaves, rising-ends}
 use Rattle.order.proofs.rising.Statement.{statement}
 use Rattle.order.proofs.rising.Tie as tie

@@ -12,7 +12,7 @@ use Rattle.lattice.specs.Point.{Point, points, point}
 use Rattle.lattice.proofs.Numbers.{points-length}
 use Rattle.packed.proofs.Tests.{read-back}
 use Rattle.order.specs.Row.{RunsTo}
-use Rattle.order.proofs.Reading.{row-at, read-row}
+use Rattle.packed.proofs.Reading.{row-at, read-row}
 use Rattle.order.proofs.RowLaws.{Running, running-none, running-more, running-stops}
 use Rattle.order.proofs.run.Statement.{statement}
 use Rattle.order.proofs.run.Tie as tie
