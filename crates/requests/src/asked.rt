@@ -3,6 +3,7 @@
 use crate::parts;
 use crate::parts::Room;
 use crate::reading::Source;
+use crate::writing::Sink;
 
 // A list, in the first `count` numbers of its array, and as many of the rooms as the call has.
 pub struct Asked {
@@ -88,4 +89,16 @@ pub(crate) fn read_report(
 ) -> Asked {
     let asked = read_hull(input, list, ordered, corners, source);
     with_missing(input, missing, asked)
+}
+
+// Writes `ROOM' ROOM'`, the ordered room and the corner room.
+pub(crate) fn write_rooms(
+    output: &mut [u8],
+    ordered: &[i32],
+    corners: &[i32],
+    asked: Asked,
+    sink: Sink,
+) -> Sink {
+    let ordered_room = parts::write_room(output, sink, ordered, asked.ordered);
+    parts::write_room(output, ordered_room, corners, asked.corners)
 }

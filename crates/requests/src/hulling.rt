@@ -24,14 +24,6 @@ fn ask_hull(list: &[i32], ordered: &mut [i32], corners: &mut [i32], asked: Asked
     )
 }
 
-// Writes `number place points corners`.
-fn write_counts(output: &mut [u8], answer: Hulled, sink: Sink) -> Sink {
-    let number = writing::natural(output, sink, answer.number as u64);
-    let place = writing::natural(output, number, answer.place as u64);
-    let points = writing::natural(output, place, answer.points as u64);
-    writing::natural(output, points, answer.corners as u64)
-}
-
 // Answers `number place points corners ROOM' ROOM'`.
 fn write_hull(
     output: &mut [u8],
@@ -41,10 +33,16 @@ fn write_hull(
     answer: Hulled,
     sink: Sink,
 ) -> Sink {
-    let counts = write_counts(output, answer, sink);
-    let ordered_room = parts::write_room(output, counts, ordered, asked.ordered);
-    let corner_room = parts::write_room(output, ordered_room, corners, asked.corners);
-    writing::line_end(output, corner_room)
+    let counts = parts::write_counts(
+        output,
+        answer.number,
+        answer.place,
+        answer.points,
+        answer.corners,
+        sink,
+    );
+    let rooms = asked::write_rooms(output, ordered, corners, asked, counts);
+    writing::line_end(output, rooms)
 }
 
 // Hull: `2 LIST ROOM ROOM`.

@@ -6,6 +6,7 @@ mod hulling;
 mod ordering;
 mod parts;
 mod reading;
+mod reporting;
 mod rows;
 mod state;
 mod writing;
@@ -34,6 +35,8 @@ fn answered(
     match call {
         1 => ordering::order(input, output, list, ordered, source, sink),
         2 => hulling::hull(input, output, list, ordered, corners, source, sink),
+        3 => reporting::verdict(input, output, list, ordered, corners, source, sink),
+        4 => reporting::report(input, output, list, ordered, corners, missing, source, sink),
         5 => rows::row_ends(input, output, list, source, sink),
         6 => rows::row(input, output, list, source, sink),
         _ => state::bad(source, sink),

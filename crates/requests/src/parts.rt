@@ -153,3 +153,18 @@ pub(crate) fn write_room(output: &mut [u8], sink: Sink, array: &[i32], room: Roo
     let length = within(room.length, array);
     write_part(output, sink, &array[..length], room.first)
 }
+
+// Writes `number place points corners`.
+pub(crate) fn write_counts(
+    output: &mut [u8],
+    number: u32,
+    place: usize,
+    points: usize,
+    corners: usize,
+    sink: Sink,
+) -> Sink {
+    let numbered = writing::natural(output, sink, number as u64);
+    let placed = writing::natural(output, numbered, place as u64);
+    let counted = writing::natural(output, placed, points as u64);
+    writing::natural(output, counted, corners as u64)
+}

@@ -131,7 +131,7 @@ fn signed(output: &mut [u8], sink: Sink, value: i32) -> Sink {
 }
 
 // A number.
-fn number(output: &mut [u8], sink: Sink, value: i32) -> Sink {
+pub(crate) fn number(output: &mut [u8], sink: Sink, value: i32) -> Sink {
     let begun = separated(output, sink);
     let begun = signed(output, begun, value);
     digits(output, begun, magnitude(value))

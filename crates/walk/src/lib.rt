@@ -55,9 +55,10 @@ pub fn count(corners: &[u32]) -> u64
         return 0;
     }
     let last = greatest(corners);
+    let last_row = last / SIDE;
     let mut total: u64 = 0;
     let mut y = corners[0] / SIDE;
-    while y <= last / SIDE {
+    while y <= last_row {
         let stretch = stretch::of_row(corners, last, y);
         total += (stretch.to - stretch.from) as u64;
         y += 1;
@@ -80,12 +81,12 @@ pub fn first(corners: &[u32], list: &[i32]) -> u32
         if last / SIDE < y {
             break 'rows NONE;
         }
-        let stretch = stretch::of_row(corners, last, y);
+        let columns = stretch::of_row(corners, last, y);
         let end = order::run(list, packed::placed(y), begin);
         let row = &list[2 * begin..2 * end];
-        let mut x = stretch.from;
-        while x < stretch.to {
-            if holds(row, (x - stretch.from) as usize, packed::placed(x)) {
+        let mut x = columns.from;
+        while x < columns.to {
+            if holds(row, (x - columns.from) as usize, packed::placed(x)) {
                 x += 1;
             } else {
                 break 'rows SIDE * y + x;

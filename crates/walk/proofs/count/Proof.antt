@@ -13,10 +13,10 @@ use Rattle.walk.proofs.Walking.{rowed, last-row, nothing, nothing-liste
 use Rattle.walk.proofs.Loops.{Counted, counted-none, counted-more, counted-all}
 
 abbrev Inv-loop : tie.InvT-loop
-Inv-loop corners last total₀ y₀ total y = Counted corners last y total
+Inv-loop corners last last-row total₀ y₀ total y = Counted corners last y total
 
 abbrev μ-loop : tie.MeasureT-loop
-μ-loop corners last total₀ y₀ total y = last / side + 1 - y
+μ-loop corners last last-row total₀ y₀ total y = last / side + 1 - y
 
 returns : tie.Need-returns Inv-loop μ-loop
 returns c = ([], nothing-listed (HullOf (now (c .before .before .args .corners))) (nothing (now (c .before .before .args .corners)) (c .if1 .taken)), refl)

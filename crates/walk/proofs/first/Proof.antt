@@ -19,10 +19,10 @@ use Rattle.walk.proofs.Walking.{rowed, last-row, nothing}
 use Rattle.walk.proofs.Loops.{Searched, Searching, searched-none, searched-all, searching-none, searching-more, searching-found, searching-all}
 
 abbrev Inv-loop : tie.InvT-loop
-Inv-loop corners list last begin y stretch end row x₀ x = Searching row stretch y x
+Inv-loop corners list last begin y columns end row x₀ x = Searching row columns y x
 
 abbrev μ-loop : tie.MeasureT-loop
-μ-loop corners list last begin y stretch end row x₀ x = stretch .to - x
+μ-loop corners list last begin y columns end row x₀ x = columns .to - x
 
 abbrev Inv-rows : tie.InvT-rows
 Inv-rows corners list last begin₀ y₀ begin y = Searched corners list last y begin
