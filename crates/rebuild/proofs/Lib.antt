@@ -1,0 +1,1 @@
+-- Laws of what is looked at, and from there to what Rebuild promises.

@@ -1,0 +1,47 @@
+-- What is looked at before a point is written: the first place with a fault, the shape of the corners, the columns of a row. Assumes nothing.
+use mathlib.Core.Path.{_≡_}
+use mathlib.Core.List.{List, map}
+use Prim.Native.Nat.{ℕ, _-_, _≤_, _<_}
+use lib.ListN.{length, getD, take}
+use lib.IntN.{pos}
+use lib.Signed.{_<ℤ_}
+use Rattle.lattice.specs.Point.{Point, Before}
+use Rattle.lattice.specs.Hull.{turn, CornerList}
+use Rattle.packed.specs.Packed.{cells, unpacked}
+
+-- the first place below n at which P holds; n if there is none
+pub record FirstBelow (n : ℕ) (P : ℕ → Type 0) (r : ℕ) : Type 0 where
+  pub upto : r ≤ n
+  pub earlier : (j : ℕ) → j < r → P j → ⊥
+  pub here : r < n → P r
+
+-- the corner at a place
+abbrev pub at : List ℕ → ℕ → Point
+at outline i = unpacked (getD outline i 0)
+
+-- each is a packed point
+abbrev pub Below : List ℕ → Type 0
+Below outline = (i : ℕ) → i < length outline → getD outline i 0 < cells
+
+-- the points of s stand at the front of an array, packed, in the order of s
+pub record Outlines (s : List Point) (outline : List ℕ) : Type 0 where
+  pub few : length s ≤ length outline
+  pub below : Below (take (length s) outline)
+  pub same : map unpacked (take (length s) outline) ≡ s
+
+-- the corner at place i, not the first, comes after the first in row order; from the third on, it is on the left of the one before it as
+-- the first corner sees them, and as the last but one does
+pub record Follows (outline : List ℕ) (i : ℕ) : Type 0 where
+  pub after : Before (at outline 0) (at outline i)
+  pub seen : 1 < i → pos 0 <ℤ turn (at outline 0) (at outline (i - 1)) (at outline i)
+  pub bends : 1 < i → pos 0 <ℤ turn (at outline (i - 2)) (at outline (i - 1)) (at outline i)
+
+-- a corner list of packed points
+pub record Cornered (outline : List ℕ) : Type 0 where
+  pub below : Below outline
+  pub listed : CornerList (map unpacked outline) (map unpacked outline)
+
+-- the last corner in row order
+pub record Greatest (outline : List ℕ) (r : ℕ) : Type 0 where
+  pub greatest : (i : ℕ) → i < length outline → getD outline i 0 ≤ r
+  pub held : (i : ℕ) × (i < length outline) × (getD outline i 0 ≡ r)
