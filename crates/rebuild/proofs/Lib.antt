@@ -1,1 +1,6 @@
 -- Laws of what is looked at, and from there to what Rebuild promises.
+pub mod Passing
+pub mod Outlining
+pub mod Following
+pub mod Straying
+pub mod Misplacing

@@ -26,7 +26,9 @@ fn key_at(list: &[i32], i: usize) -> u32
     requires { ⌜ (i < length (points (now list))) × InRange (point (points (now list)) i) ⌝ }
     ensures { λ r. ⌜ (r ≡ packedOf (point (points (now (list .entry))) i)) × (r < cells) ⌝ }
 {
-    packed::packed(list[2 * i], list[2 * i + 1])
+    let x = list[2 * i];
+    let y = list[2 * i + 1];
+    packed::packed(x, y)
 }
 
 // The first point that is out of range; how many points there are if none is.
@@ -36,7 +38,9 @@ fn outside(list: &[i32]) -> usize
     let n = list.len() / 2;
     let mut i: usize = 0;
     while i < n {
-        if packed::in_range(list[2 * i], list[2 * i + 1]) {
+        let x = list[2 * i];
+        let y = list[2 * i + 1];
+        if packed::in_range(x, y) {
             i += 1;
         } else {
             return i;
