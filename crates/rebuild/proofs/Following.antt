@@ -19,7 +19,8 @@ use Rattle.packed.specs.Packed.{Tells, unpacked}
 use Rattle.packed.proofs.RowOrder.{before-unpacked, unpacked-before}
 use Rattle.packed.proofs.KeyLaws.{unpacked-at}
 use Rattle.packed.proofs.Tests.{lt-yes}
-use Rattle.rebuild.specs.Looking.{at, Follows, Cornered}
+use Rattle.walk.specs.Walk.{Cornered}
+use Rattle.rebuild.specs.Looking.{at, Follows}
 
 not-less : {a b : ℤ} → ltZ a b ≡ false → a <ℤ b → ⊥
 not-less e h = subst T e (h .lt)

@@ -4,3 +4,5 @@ pub mod Outlining
 pub mod Following
 pub mod Straying
 pub mod Misplacing
+pub mod Refusing
+pub mod Rebuilding

@@ -2,14 +2,15 @@
 use mathlib.Core.Path.{_≡_, refl, sym, _∙_, ap, subst}
 use mathlib.Core.Logic.{inl, inr}
 use mathlib.Core.Bool.{Bool}
-use mathlib.Core.List.{List, _∷_, map}
+use mathlib.Core.List.{List, [], _∷_, map}
 use Prim.Native.Nat.{ℕ, _+_, _-_, _*_, _/_, _%_, _≤_, _<_}
 use native.Mathlib.Omega.{arith}
 use lib.ListN.{length, getD}
 use Rattle.lattice.specs.Point.{Point, InRange, point, In, Before}
-use Rattle.lattice.specs.Hull.{InHull, Of}
-use Rattle.lattice.specs.Refusal.{Misplaced}
+use Rattle.lattice.specs.Hull.{InHull, member, segment, triangle, Of}
+use Rattle.lattice.specs.Refusal.{AtPoint, Misplaced}
 use Rattle.lattice.proofs.Lists.{either}
+use Rattle.lattice.proofs.Places.{nowhere}
 use Rattle.lattice.proofs.RowOrder.{before-irreflexive}
 use Rattle.lattice.proofs.RowKey.{hull-after, hull-before}
 use Rattle.lattice.proofs.RowEnds.{inner-of-row-no-corner}
@@ -22,7 +23,8 @@ use Rattle.packed.proofs.Tests.{tells-as}
 use Rattle.stretch.specs.Stretch.{cell, Within, Rowed, StretchOf}
 use Rattle.stretch.specs.declared.Stretch.{Stretch}
 use Rattle.stretch.proofs.Counting.{is-cell-before, is-before-cell}
-use Rattle.rebuild.specs.Looking.{Cornered, Greatest}
+use Rattle.walk.specs.Walk.{Cornered, Greatest}
+use Rattle.rebuild.specs.Looking.{FirstBelow}
 use Rattle.rebuild.proofs.Passing.{Passing}
 use Rattle.rebuild.proofs.Following.{first-least}
 
@@ -35,6 +37,17 @@ module _ (outline : List ℕ) (k i : ℕ) where
   no-corner h l m =
       let r = in-unpacked outline (unpacked k) m in
       h .clear (r .0) (omega (arith, r .1)) (sym (unpacked-injective k (getD outline (r .0) 0) (r .2)))
+
+-- ---- no corners
+hull-of-none : (p : Point) → InHull (Of []) p → ⊥
+hull-of-none p (member m) = m
+hull-of-none p (segment a b i j h) = i
+hull-of-none p (triangle a b c i j k h) = i
+
+pub none-inside : (outline : List ℕ) → length outline ≡ 0 → (m : List Point) → FirstBelow (length m) (AtPoint (Misplaced (map unpacked outline)) m) 0
+none-inside [] e m =
+    record { upto = omega arith; earlier = λ j l. nowhere j l; here = λ l. (l, inl (hull-of-none (point m 0))) }
+none-inside (k ∷ outline) e m = absurd (omega (arith, e))
 
 -- ---- rows before the first corner and behind the last
 abbrev nothing : Stretch
@@ -127,7 +140,7 @@ module _ (outline : List ℕ) (h : Cornered outline) (k : ℕ) (s : Stretch) (t 
           shape = corner-list-shape c c (h .listed);
           inside = λ q i. inr (inr i);
           cover = λ q i. either i (λ e. subst (InHull (Of c)) (sym e) first-in)
-              (λ j. either j (λ e. subst (InHull (Of c)) (sym e) last-in) (λ n. InHull.member n));
+              (λ j. either j (λ e. subst (InHull (Of c)) (sym e) last-in) (λ n. member n));
         }
 
         no-corner-here : In (unpacked k) c → ⊥

@@ -1,13 +1,19 @@
--- What is looked at before a point is written: the first place with a fault, the shape of the corners, the columns of a row. Assumes nothing.
+-- What is looked at before a point is written: lists in range, the first place with a fault, the shape of the corners, the columns of a row. Assumes nothing.
 use mathlib.Core.Path.{_≡_}
 use mathlib.Core.List.{List, map}
 use Prim.Native.Nat.{ℕ, _-_, _≤_, _<_}
 use lib.ListN.{length, getD, take}
-use lib.IntN.{pos}
+use lib.IntN.{ℤ, pos}
 use lib.Signed.{_<ℤ_}
-use Rattle.lattice.specs.Point.{Point, Before}
-use Rattle.lattice.specs.Hull.{turn, CornerList}
+use Rattle.lattice.specs.Point.{Point, InRange, most, points, All, Before}
+use Rattle.lattice.specs.Hull.{turn}
 use Rattle.packed.specs.Packed.{cells, unpacked}
+
+-- lists that pass refusals 1 to 3
+pub record Taken (corners missing : List ℤ) : Type 0 where
+  pub few : length (points corners) ≤ most
+  pub corners-range : All InRange (points corners)
+  pub missing-range : All InRange (points missing)
 
 -- the first place below n at which P holds; n if there is none
 pub record FirstBelow (n : ℕ) (P : ℕ → Type 0) (r : ℕ) : Type 0 where
@@ -35,13 +41,3 @@ pub record Follows (outline : List ℕ) (i : ℕ) : Type 0 where
   pub after : Before (at outline 0) (at outline i)
   pub seen : 1 < i → pos 0 <ℤ turn (at outline 0) (at outline (i - 1)) (at outline i)
   pub bends : 1 < i → pos 0 <ℤ turn (at outline (i - 2)) (at outline (i - 1)) (at outline i)
-
--- a corner list of packed points
-pub record Cornered (outline : List ℕ) : Type 0 where
-  pub below : Below outline
-  pub listed : CornerList (map unpacked outline) (map unpacked outline)
-
--- the last corner in row order
-pub record Greatest (outline : List ℕ) (r : ℕ) : Type 0 where
-  pub greatest : (i : ℕ) → i < length outline → getD outline i 0 ≤ r
-  pub held : (i : ℕ) × (i < length outline) × (getD outline i 0 ≡ r)

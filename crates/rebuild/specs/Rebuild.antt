@@ -41,6 +41,11 @@ pub record Outcome (t : Table) (c m : List Point) (room : List ℤ) (answer : Re
   pub gives : Gives t (answer .number) (answer .place)
   pub result : RebuildResult c m room (answer .number) (answer .points) after
 
+-- what looking at some rows of the table tells, before anything is counted
+pub record Looks (t : Table) (answer : Rebuilt) : Type 0 where
+  pub gives : Gives t (answer .number) (answer .place)
+  pub uncounted : answer .points ≡ 0
+
 -- "Rebuild: 1 (either list), 2, 3 for corners, 3 for missing points, 8, 9, 10, 11, 12."
 abbrev pub rebuildTable : List ℤ → List ℤ → List ℤ → Table
 rebuildTable corners missing room =

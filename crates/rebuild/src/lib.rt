@@ -8,8 +8,9 @@ ghost use Rattle.lattice.specs.Hull.{CornerList};
 ghost use Rattle.lattice.specs.Refusal.{accepted, AtPoint, Strays, OutOfRange, Misplaced, rebuildRows};
 ghost use Rattle.packed.specs.Packed.{Tells, side, cells, packed as packedOf, unpacked};
 ghost use Rattle.stretch.specs.Stretch.{StretchOf};
-ghost use Rattle.rebuild.specs.Rebuild.{inputRows};
-ghost use Rattle.rebuild.specs.Looking.{FirstBelow, Below, Outlines, Follows, Cornered, Greatest};
+ghost use Rattle.walk.specs.Walk.{Cornered, Greatest};
+ghost use Rattle.rebuild.specs.Rebuild.{inputRows, Looks};
+ghost use Rattle.rebuild.specs.Looking.{FirstBelow, Below, Outlines, Follows};
 use stretch::Stretch;
 
 // What Rebuild answers: number and place, 0 and 0 if accepted, and how many points there are.
@@ -191,4 +192,79 @@ fn first_misplaced(outline: &[u32], last: u32, missing: &[i32]) -> usize
         i += 1;
     }
     i
+}
+
+// The first missing point that is outside the corners' hull or is a corner; how many there are if none is.
+fn misplaced(outline: &[u32], missing: &[i32]) -> usize
+    requires { ⌜ Cornered (now outline) × All InRange (points (now missing)) ⌝ }
+    ensures { λ r. ⌜ FirstBelow (length (points (now (missing .entry))))
+        (AtPoint (Misplaced (map unpacked (now (outline .entry)))) (points (now (missing .entry)))) r ⌝ }
+{
+    if outline.len() == 0 {
+        return 0;
+    }
+    first_misplaced(outline, walk::greatest(outline), missing)
+}
+
+fn declined(number: u32, place: usize) -> Rebuilt
+    ensures { λ r. ⌜ r ≡ record { number = number; place = place; points = 0 } ⌝ }
+{
+    Rebuilt {
+        number,
+        place,
+        points: 0,
+    }
+}
+
+// Refusals 1, 2 and 3 of both lists; number 0 if there is none.
+fn refusal_of_lists(corners: &[i32], missing: &[i32]) -> Rebuilt
+    ensures { λ r. ⌜ Looks (inputRows (now (corners .entry)) (now (missing .entry)) accepted) r ⌝ }
+{
+    if corners.len() % 2 == 1 {
+        return declined(1, 0);
+    }
+    if missing.len() % 2 == 1 {
+        return declined(1, 0);
+    }
+    let n = corners.len() / 2;
+    if packed::MOST < n {
+        return declined(2, 0);
+    }
+    let corner = outside(corners);
+    if corner < n {
+        return declined(3, corner);
+    }
+    let point = outside(missing);
+    if point < missing.len() / 2 {
+        return declined(3, point);
+    }
+    Rebuilt {
+        number: 0,
+        place: 0,
+        points: 0,
+    }
+}
+
+// Refusals 8, 9 and 10 of points in range; number 0 if there is none.
+fn refusal_of_points(outline: &[u32], missing: &[i32]) -> Rebuilt
+    requires { ⌜ Below (now outline) × All InRange (points (now missing)) ⌝ }
+    ensures { λ r. ⌜ Looks (rebuildRows (map unpacked (now (outline .entry))) (points (now (missing .entry))) accepted) r ⌝ }
+{
+    let n = missing.len() / 2;
+    if !is_corner_list(outline) {
+        return declined(8, 0);
+    }
+    let stray = first_stray(missing);
+    if stray < n {
+        return declined(9, stray);
+    }
+    let point = misplaced(outline, missing);
+    if point < n {
+        return declined(10, point);
+    }
+    Rebuilt {
+        number: 0,
+        place: 0,
+        points: 0,
+    }
 }
