@@ -11,6 +11,7 @@ use Rattle.lattice.specs.Hull.{InHull, Of, CornerList, Kept}
 use Rattle.lattice.specs.Refusal.{Table, accepted, Gives, Misplaced, rebuildRows}
 use Rattle.lattice.specs.Room.{holding, TooSmall}
 use Rattle.lattice.proofs.Lists.{either, all-in, all-map}
+use Rattle.lattice.proofs.Numbers.{points-length}
 use Rattle.lattice.proofs.Places.{lt-or-le, place-all}
 use Rattle.lattice.proofs.Decide.{yes-or-no, in?, hull?}
 use Rattle.lattice.proofs.Refusals.{gives-unique, range?}
@@ -22,7 +23,7 @@ use Rattle.lattice.proofs.Demand.{rebuild-accepts}
 use Rattle.packed.specs.Packed.{unpacked}
 use Rattle.walk.specs.Walk.{Cornered, Walked}
 use Rattle.rebuild.specs.declared.Rebuilt.{Rebuilt}
-use Rattle.rebuild.specs.Rebuild.{inputRows, Results, resultRows, RebuildResult, Outcome, Looks, rebuildTable, RebuildPromise}
+use Rattle.rebuild.specs.Rebuild.{inputRows, Results, resultRows, RebuildResult, Outcome, Looks, pointRows, Behind, rebuildTable, RebuildPromise}
 use Rattle.rebuild.specs.Looking.{Below, Taken, Outlines}
 
 -- ---- rows that decline, rows that let pass
@@ -47,12 +48,12 @@ pub outcome-as : {t : Table} {c m : List Point} {room after : List ℤ} {a b : R
 outcome-as {t} {c} {m} {room} {after} e h = subst (λ r. Outcome t c m room r after) (sym e) h
 
 -- ---- lists that pass rows 1 to 3
-pub lists-taken : (corners missing : List ℤ) (place : ℕ) → Gives (inputRows corners missing accepted) 0 place → Taken corners missing
-lists-taken corners missing place (inl h) = absurd (omega (arith, h .0))
-lists-taken corners missing place (inr (odd, inl h)) = absurd (omega (arith, h .0))
-lists-taken corners missing place (inr (odd, inr (more, inl h))) = absurd (omega (arith, h .0))
-lists-taken corners missing place (inr (odd, inr (more, inr (corner, inl h)))) = absurd (omega (arith, h .0))
-lists-taken corners missing place (inr (odd, inr (more, inr (corner, inr (missing-point, h))))) = record {
+taken : (corners missing : List ℤ) (place : ℕ) → Gives (inputRows corners missing accepted) 0 place → Taken corners missing
+taken corners missing place (inl h) = absurd (omega (arith, h .0))
+taken corners missing place (inr (odd, inl h)) = absurd (omega (arith, h .0))
+taken corners missing place (inr (odd, inr (more, inl h))) = absurd (omega (arith, h .0))
+taken corners missing place (inr (odd, inr (more, inr (corner, inl h)))) = absurd (omega (arith, h .0))
+taken corners missing place (inr (odd, inr (more, inr (corner, inr (missing-point, h))))) = record {
   few = either (lt-or-le most (length (points corners))) (λ l. absurd (more 0 (refl, l))) (λ l. l);
   corners-range = ranged (points corners) (λ j l n. corner j (l, n));
   missing-range = ranged (points missing) (λ j l n. missing-point j (l, n));
@@ -62,16 +63,16 @@ lists-taken corners missing place (inr (odd, inr (more, inr (corner, inr (missin
     ranged l f = place-all InRange l (λ j k. either (yes-or-no (range? (point l j))) (λ h. h) (λ n. absurd (f j k n)))
 
 -- ---- corners and missing points that pass rows 8 to 10
-module _ (outline : List ℕ) (missing : List ℤ) (below : Below outline) (place : ℕ) where
-  pub points-walked : Gives (rebuildRows (map unpacked outline) (points missing) accepted) 0 place → Walked outline missing
-  points-walked g =
-      let r = rebuild-accepts (map unpacked outline) (points missing) accepted 0 place g (λ e. omega arith) (λ e. omega arith) (λ e. omega arith) in
-      record {
-        cornered = record { below = below; listed = r .0 };
-        order = r .1;
-        inside = all-map (λ p. Misplaced (map unpacked outline) p → ⊥) (InHull (Of (map unpacked outline)))
-            (λ p n. either (yes-or-no (hull? (map unpacked outline) p)) (λ h. h) (λ k. absurd (n (inl k)))) (points missing) (r .2);
-      }
+walked : (outline : List ℕ) (missing : List ℤ) → Below outline → (place : ℕ)
+    → Gives (rebuildRows (map unpacked outline) (points missing) accepted) 0 place → Walked outline missing
+walked outline missing below place g =
+    let r = rebuild-accepts (map unpacked outline) (points missing) accepted 0 place g (λ e. omega arith) (λ e. omega arith) (λ e. omega arith) in
+    record {
+      cornered = record { below = below; listed = r .0 };
+      order = r .1;
+      inside = all-map (λ p. Misplaced (map unpacked outline) p → ⊥) (InHull (Of (map unpacked outline)))
+          (λ p n. either (yes-or-no (hull? (map unpacked outline) p)) (λ h. h) (λ k. absurd (n (inl k)))) (points missing) (r .2);
+    }
 
 -- ---- what results
 module _ (c m : List Point) (order : Pairs Before m) (inside : All (InHull (Of c)) m) (l : List Point) (h : Lists (InHull (Of c)) l) where
@@ -118,6 +119,62 @@ module _ (c m : List Point) (order : Pairs Before m) (inside : All (InHull (Of c
           gives = inr (whole-never not-many, inr (whole-never (λ (s, k, g). omega (arith, g, wide, result-count s k)), (refl, refl)));
           result = w;
         }
+
+-- ---- corners that stand packed at the front of an array
+module _ (corners missing room : List ℤ) (outline : List ℕ) (o : Outlines (points corners) outline) where
+  abbrev front : List ℕ
+  front = take (length corners / 2) outline
+
+  pub front-few : length corners / 2 ≤ length outline
+  front-few = omega (arith, o .few, points-length corners)
+
+  pub front-below : Below front
+  front-below = subst (λ n. Below (take n outline)) (points-length corners) (o .below)
+
+  front-same : map unpacked front ≡ points corners
+  front-same = subst (λ n. map unpacked (take n outline) ≡ points corners) (points-length corners) (o .same)
+
+  module _ (number place count : ℕ)
+      (h : Looks (rebuildRows (map unpacked front) (points missing) accepted) (record { number = number; place = place; points = count })) where
+    shown : Looks (rebuildRows (points corners) (points missing) accepted) (record { number = number; place = place; points = count })
+    shown = subst (λ c. Looks (rebuildRows c (points missing) accepted) (record { number = number; place = place; points = count })) front-same h
+
+    pub points-declined : (number ≡ 0 → ⊥) → Behind corners missing room (record { number = number; place = place; points = count }) room
+    points-declined n =
+        outcome-declined (rebuildRows (points corners) (points missing) accepted) (resultRows (points corners) (points missing) room accepted)
+        (points corners) (points missing) room number place count n shown
+
+    module _ (e : number ≡ 0) where
+      pub points-walked : Walked front missing
+      points-walked = walked front missing front-below place (subst (λ n. Gives (rebuildRows (map unpacked front) (points missing) accepted) n place) e (h .gives))
+
+      pub points-passed : (answer : Rebuilt) (after : List ℤ)
+          → Outcome (resultRows (map unpacked front) (points missing) room accepted) (map unpacked front) (points missing) room answer after
+          → Behind corners missing room answer after
+      points-passed answer after r =
+          outcome-passed (rebuildRows (points corners) (points missing) accepted) (resultRows (points corners) (points missing) room accepted)
+          (points corners) (points missing) room (tt, (tt, (tt, tt))) place
+          (subst (λ n. Gives (rebuildRows (points corners) (points missing) accepted) n place) e (shown .gives)) answer after
+          (subst (λ c. Outcome (resultRows c (points missing) room accepted) c (points missing) room answer after) front-same r)
+
+-- ---- both lists
+module _ (corners missing room : List ℤ) (number place count : ℕ)
+    (h : Looks (inputRows corners missing accepted) (record { number = number; place = place; points = count })) where
+  pub lists-declined : (number ≡ 0 → ⊥) → RebuildPromise corners missing room (record { number = number; place = place; points = count }) room
+  lists-declined n =
+      outcome-declined (inputRows corners missing accepted) (pointRows corners missing room) (points corners) (points missing) room number place count n h
+
+  module _ (e : number ≡ 0) where
+    passes : Gives (inputRows corners missing accepted) 0 place
+    passes = subst (λ n. Gives (inputRows corners missing accepted) n place) e (h .gives)
+
+    pub lists-taken : Taken corners missing
+    lists-taken = taken corners missing place passes
+
+    pub lists-passed : (answer : Rebuilt) (after : List ℤ) → Behind corners missing room answer after → RebuildPromise corners missing room answer after
+    lists-passed answer after r =
+        outcome-passed (inputRows corners missing accepted) (pointRows corners missing room) (points corners) (points missing) room
+        (tt, (tt, (tt, (tt, tt)))) place passes answer after r
 
 -- ---- any two outcomes coincide
 results-equal : (c m : List Point) (room : List ℤ) (number count other : ℕ) (after later : List ℤ)

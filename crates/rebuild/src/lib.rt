@@ -8,9 +8,9 @@ ghost use Rattle.lattice.specs.Hull.{CornerList};
 ghost use Rattle.lattice.specs.Refusal.{accepted, AtPoint, Strays, OutOfRange, Misplaced, rebuildRows};
 ghost use Rattle.packed.specs.Packed.{Tells, side, cells, packed as packedOf, unpacked};
 ghost use Rattle.stretch.specs.Stretch.{StretchOf};
-ghost use Rattle.walk.specs.Walk.{Cornered, Greatest};
-ghost use Rattle.rebuild.specs.Rebuild.{inputRows, Looks};
-ghost use Rattle.rebuild.specs.Looking.{FirstBelow, Below, Outlines, Follows};
+ghost use Rattle.walk.specs.Walk.{Cornered, Walked, Greatest};
+ghost use Rattle.rebuild.specs.Rebuild.{inputRows, resultRows, Outcome, Looks, Behind, RebuildPromise};
+ghost use Rattle.rebuild.specs.Looking.{Taken, FirstBelow, Below, Outlines, Follows};
 use stretch::Stretch;
 
 // What Rebuild answers: number and place, 0 and 0 if accepted, and how many points there are.
@@ -267,4 +267,77 @@ fn refusal_of_points(outline: &[u32], missing: &[i32]) -> Rebuilt
         place: 0,
         points: 0,
     }
+}
+
+// Refusals 11 and 12, or the points that result at the front of the room.
+fn result(outline: &[u32], missing: &[i32], room: &mut [i32]) -> Rebuilt
+    requires { ⌜ Walked (now outline) (now missing) ⌝ }
+    ensures { λ r. ⌜ Outcome (resultRows (map unpacked (now (outline .entry))) (points (now (missing .entry))) (now (room .entry)) accepted)
+        (map unpacked (now (outline .entry))) (points (now (missing .entry))) (now (room .entry)) r (now (room .exit)) ⌝ }
+{
+    let count = walk::count(outline) - (missing.len() / 2) as u64;
+    if count > packed::MOST as u64 {
+        return declined(11, 0);
+    }
+    if count > (room.len() / 2) as u64 {
+        return declined(12, 0);
+    }
+    let points = walk::write(outline, missing, room);
+    Rebuilt {
+        number: 0,
+        place: 0,
+        points,
+    }
+}
+
+// Rebuild of lists that pass refusals 1 to 3, in working space that is lent.
+fn rebuild_in(
+    corners: &[i32],
+    missing: &[i32],
+    room: &mut [i32],
+    outline: &mut [u32],
+) -> Rebuilt
+    requires { ⌜ Taken (now corners) (now missing) × (length (points (now corners)) ≤ length (now outline)) ⌝ }
+    ensures { λ r. ⌜ Behind (now (corners .entry)) (now (missing .entry)) (now (room .entry)) r (now (room .exit)) ⌝ }
+{
+    pack(corners, outline);
+    let n = corners.len() / 2;
+    let found = refusal_of_points(&outline[..n], missing);
+    let number = found.number;
+    if number != 0 {
+        return found;
+    }
+    result(&outline[..n], missing, room)
+}
+
+// Rebuild with as much working space as the corners ask for: what a call zeroes is what it costs a small grain.
+fn rebuild_few(corners: &[i32], missing: &[i32], room: &mut [i32]) -> Rebuilt
+    requires { ⌜ Taken (now corners) (now missing) × (length (points (now corners)) ≤ 64) ⌝ }
+    ensures { λ r. ⌜ Behind (now (corners .entry)) (now (missing .entry)) (now (room .entry)) r (now (room .exit)) ⌝ }
+{
+    let mut outline = [0u32; 64];
+    rebuild_in(corners, missing, room, &mut outline)
+}
+
+fn rebuild_many(corners: &[i32], missing: &[i32], room: &mut [i32]) -> Rebuilt
+    requires { ⌜ Taken (now corners) (now missing) ⌝ }
+    ensures { λ r. ⌜ Behind (now (corners .entry)) (now (missing .entry)) (now (room .entry)) r (now (room .exit)) ⌝ }
+{
+    let mut outline = [0u32; 4096];
+    rebuild_in(corners, missing, room, &mut outline)
+}
+
+// The points of the corners' hull that are not missing, in row order at the front of the room.
+pub fn rebuild(corners: &[i32], missing: &[i32], room: &mut [i32]) -> Rebuilt
+    ensures { λ r. ⌜ RebuildPromise (now (corners .entry)) (now (missing .entry)) (now (room .entry)) r (now (room .exit)) ⌝ }
+{
+    let found = refusal_of_lists(corners, missing);
+    let number = found.number;
+    if number != 0 {
+        return found;
+    }
+    if corners.len() / 2 <= 64 {
+        return rebuild_few(corners, missing, room);
+    }
+    rebuild_many(corners, missing, room)
 }
