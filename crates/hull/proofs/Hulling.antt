@@ -21,6 +21,7 @@ use Rattle.packed.specs.Packed.{unpacked}
 use Rattle.packed.proofs.RowOrder.{unpacked-before}
 use Rattle.order.specs.declared.Ordered.{Ordered}
 use Rattle.order.specs.Keys.{KeysOf, Finds}
+use Rattle.order.proofs.Ordering.{FoundKeys}
 use Rattle.packed.proofs.KeyLaws.{unpacked-at}
 use Rattle.hull.specs.declared.Hulled.{Hulled}
 use Rattle.hull.specs.Scanning.{Rising, Cornered}
@@ -63,20 +64,20 @@ module _ (list ordered corners : List ℤ) (keys stack : List ℕ) where
     result = (refl, refl);
   }
 
-  module _ (place count : ℕ) (f : Finds list (ordered-answer 0 place count) keys) where
+  module _ {answer : Ordered} (f : FoundKeys list answer keys) where
     later : (n i : ℕ) → Gives roomRows n i → Gives (hullRows list ordered corners accepted) n i
-    later n i g = passed-before (listRows list accepted) roomRows (tt, (tt, (tt, (tt, tt)))) place n i (f .gives) g
+    later n i g = passed-before (listRows list accepted) roomRows (tt, (tt, (tt, (tt, tt)))) (answer .place) n i (f .passed) g
 
-    pub find-ordered-small : TooSmall ordered count → FindsHull list ordered corners (hulled-answer 5 0 0 0) keys stack
+    pub find-ordered-small : TooSmall ordered (answer .points) → FindsHull list ordered corners (hulled-answer 5 0 0 0) keys stack
     find-ordered-small small = record {
-      gives = later 5 0 (inl (refl, whole-first (subst (TooSmall ordered) (f .result .0) small)));
+      gives = later 5 0 (inl (refl, whole-first (subst (TooSmall ordered) (f .all) small)));
       result = (refl, refl);
     }
 
-    module _ (wide : TooSmall ordered count → ⊥) (r : ℕ) (h : Cornered (take count keys) stack r) where
+    module _ (wide : answer .points ≤ length ordered / 2) {r : ℕ} (h : Cornered (take (answer .points) keys) stack r) where
       listed : CornerList (points list) (map unpacked (take r stack))
-      listed = corner-list-same (map unpacked (take count keys)) (points list)
-          ((λ p m. f .result .2 .lists .only p m), (λ p m. f .result .2 .lists .every p m))
+      listed = corner-list-same (map unpacked (take (answer .points) keys)) (points list)
+          ((λ p m. f .keys-of .lists .only p m), (λ p m. f .keys-of .lists .every p m))
           (map unpacked (take r stack)) (h .corners)
 
       long : length (map unpacked (take r stack)) ≡ r
@@ -84,7 +85,7 @@ module _ (list ordered corners : List ℤ) (keys stack : List ℕ) where
 
       room-later : (n i : ℕ) → Gives (6 when Whole (FewerThanCorners (points list) corners) else accepted) n i
           → Gives (hullRows list ordered corners accepted) n i
-      room-later n i g = later n i (inr (whole-never (λ small. wide (subst (TooSmall ordered) (sym (f .result .0)) small)), g))
+      room-later n i g = later n i (inr (whole-never (λ small. omega (arith, small, wide, f .all)), g))
 
       pub find-corners-small : TooSmall corners r → FindsHull list ordered corners (hulled-answer 6 0 0 0) keys stack
       find-corners-small small = record {
@@ -99,22 +100,27 @@ module _ (list ordered corners : List ℤ) (keys stack : List ℕ) where
         result = (refl, refl);
       }
 
-      pub find-found : (TooSmall corners r → ⊥) → FindsHull list ordered corners (hulled-answer 0 0 count r) keys stack
+      pub find-found : r ≤ length corners / 2 → FindsHull list ordered corners (hulled-answer 0 0 (answer .points) r) keys stack
       find-found room = record {
         gives = room-later 0 0 (inr (
-          whole-never (λ w. room (subst (TooSmall corners)
-              (ap length (corner-list-unique (points list) (w .corners) (map unpacked (take r stack)) (w .listed) listed) ∙ long) (w .small))),
+          whole-never (λ w. omega (
+            arith,
+            room,
+            long,
+            w .small,
+            ap length (corner-list-unique (points list) (w .corners) (map unpacked (take r stack)) (w .listed) listed),
+          )),
           (refl, refl),
         ));
         result = record {
-          points = f .result .0;
-          keys-long = f .result .1;
-          keys-of = f .result .2;
+          points = f .all;
+          keys-long = f .inside;
+          keys-of = f .keys-of;
           stack-long = h .few;
           stack-below = h .below;
           corner = listed;
-          ordered-room = wide;
-          corner-room = room;
+          ordered-room = λ small. omega (arith, small, wide);
+          corner-room = λ small. omega (arith, small, room);
         };
       }
 

@@ -1,4 +1,4 @@
--- What holds of the points, pairs, triples and neighbours of a list, by place, both ways. Assumes nothing.
+-- What holds of the points, pairs, triples and neighbours of a list, by place. Assumes nothing.
 use mathlib.Core.Path.{_≡_, refl, sym, subst}
 use mathlib.Core.Logic.{_⊎_, inl, inr}
 use mathlib.Core.List.{List, [], _∷_}
@@ -53,12 +53,6 @@ module _ (R : Point → Point → Type 0) where
     place-pairs l (λ i j g k. h (suc i) (suc j) (omega arith) (omega arith)),
   )
 
-  pub chain-place : (l : List Point) → Chain R l → (i : ℕ) → suc i < length l → R (point l i) (point l (suc i))
-  chain-place [] h i g = nowhere (suc i) g
-  chain-place (a ∷ []) h i g = nowhere i (omega arith)
-  chain-place (a ∷ b ∷ l) h zero g = h .0
-  chain-place (a ∷ b ∷ l) h (suc i) g = chain-place (b ∷ l) (h .1) i (omega arith)
-
   pub place-chain : (l : List Point) → ((i : ℕ) → suc i < length l → R (point l i) (point l (suc i))) → Chain R l
   place-chain [] h = tt
   place-chain (a ∷ []) h = tt
@@ -73,22 +67,6 @@ module _ (R : Point → Point → Point → Type 0) where
   triples-place (a ∷ l) h i (suc j) zero g f e = nowhere (suc j) f
   triples-place (a ∷ l) h zero (suc j) (suc k) g f e = pairs-place (R a) l (h .0) j k (omega arith) (omega arith)
   triples-place (a ∷ l) h (suc i) (suc j) (suc k) g f e = triples-place l (h .1) i j k (omega arith) (omega arith) (omega arith)
-
-  pub place-triples : (l : List Point)
-      → ((i j k : ℕ) → i < j → j < k → k < length l → R (point l i) (point l j) (point l k)) → Triples R l
-  place-triples [] h = tt
-  place-triples (a ∷ l) h = (
-    place-pairs (R a) l (λ j k f e. h zero (suc j) (suc k) (omega arith) (omega arith) (omega arith)),
-    place-triples l (λ i j k g f e. h (suc i) (suc j) (suc k) (omega arith) (omega arith) (omega arith)),
-  )
-
-  pub bends-place : (l : List Point) → Bends R l
-      → (i : ℕ) → suc (suc i) < length l → R (point l i) (point l (suc i)) (point l (suc (suc i)))
-  bends-place [] h i g = nowhere (suc (suc i)) g
-  bends-place (a ∷ []) h i g = nowhere (suc i) (omega arith)
-  bends-place (a ∷ b ∷ []) h i g = nowhere i (omega arith)
-  bends-place (a ∷ b ∷ c ∷ l) h zero g = h .0
-  bends-place (a ∷ b ∷ c ∷ l) h (suc i) g = bends-place (b ∷ c ∷ l) (h .1) i (omega arith)
 
   pub place-bends : (l : List Point)
       → ((i : ℕ) → suc (suc i) < length l → R (point l i) (point l (suc i)) (point l (suc (suc i)))) → Bends R l

@@ -3,8 +3,8 @@ use mathlib.Core.Path.{_≡_, sym, _∙_, ap}
 use mathlib.Core.List.{List, [], _∷_, _++_, append-assoc}
 use Prim.Native.Nat.{ℕ, suc, _+_, _*_, _≤_, _<_}
 use native.Mathlib.Omega.{arith}
-use lib.ListN.{length, getD, drop, set, length-append, length-drop}
-use lib.Seq.{drop-cons, set-at}
+use lib.ListN.{length, getD, take, drop, set, length-append, length-drop}
+use lib.Seq.{drop-cons, drop-drop, set-at, take-at, drop-at}
 use lib.IntN.{ℤ, pos}
 use Rattle.lattice.specs.Point.{Point}
 use Rattle.lattice.specs.Room.{numbers, holding}
@@ -55,3 +55,19 @@ pub holding-next : (l : List Point) (n : ℕ) → length l ≡ n → (p : Point)
     → set (set (holding l room) (2 * n) (p .x)) (2 * n + 1) (p .y) ≡ holding (l ++ p ∷ []) room
 holding-next l n e p room h =
     ap (λ m. set (set (holding l room) (2 * m) (p .x)) (2 * m + 1) (p .y)) (sym e) ∙ holding-more l p room (omega arith)
+
+-- the rest of a room lent on: points behind points
+module _ (l : List Point) (n : ℕ) (e : length l ≡ n) (room : List ℤ) where
+  long : length (numbers l) ≡ 2 * n
+  long = omega (arith, numbers-length l, e)
+
+  pub holding-rest : drop (2 * n) (holding l room) ≡ drop (2 * n) room
+  holding-rest = drop-at (numbers l) (drop (2 * length l) room) (2 * n) long ∙ ap (λ k. drop (2 * k) room) e
+
+  pub holding-then : (m : List Point) → take (2 * n) (holding l room) ++ holding m (drop (2 * n) (holding l room)) ≡ holding (l ++ m) room
+  holding-then m =
+      let f : 2 * n + 2 * length m ≡ 2 * length (l ++ m) = omega (arith, length-append l m, e) in
+      (λ i. take-at (numbers l) (drop (2 * length l) room) (2 * n) long i ++ (numbers m ++ drop (2 * length m) (holding-rest i)))
+      ∙ ap (λ r. numbers l ++ (numbers m ++ r)) (drop-drop (2 * length m) (2 * n) room ∙ ap (λ k. drop k room) f)
+      ∙ sym (append-assoc (numbers l) (numbers m) (drop (2 * length (l ++ m)) room))
+      ∙ ap (λ a. a ++ drop (2 * length (l ++ m)) room) (sym (numbers-append l m))

@@ -2,10 +2,10 @@
 -- are stored.
 use mathlib.Core.Path.{_≡_, refl, _∙_, ap, subst}
 use mathlib.Core.Logic.{inl, inr}
-use mathlib.Core.List.{List, [], _∷_, reverse, reverseAux}
+use mathlib.Core.List.{List, [], _∷_}
 use Prim.Native.Nat.{ℕ, zero, suc, _-_, _≤_, _<_}
 use native.Mathlib.Omega.{arith}
-use lib.ListN.{length, take}
+use lib.ListN.{length}
 use Rattle.lattice.specs.Point.{Point, point, In, Pairs, Triples}
 use Rattle.lattice.proofs.Lists.{either, all-in, Chain}
 use Rattle.lattice.proofs.Places.{lt-or-le, nowhere}
@@ -26,15 +26,6 @@ stack-agrees f g (suc n) h =
     let r = stack-agrees f g n (λ i l. h i (omega arith)) in
     λ i. e i ∷ r i
 
--- ---- the stack from its bottom is the list
-stack-shift : (f : ℕ → Point) (n : ℕ) (l : List Point) → reverseAux (stack f (suc n)) l ≡ f zero ∷ reverseAux (stack (λ i. f (suc i)) n) l
-stack-shift f zero l = refl
-stack-shift f (suc n) l = stack-shift f n (f (suc n) ∷ l)
-
-pub reverse-stack : (f : ℕ → Point) (n : ℕ) → reverse (stack f n) ≡ front f n
-reverse-stack f zero = refl
-reverse-stack f (suc n) = stack-shift f n [] ∙ ap (λ l. f zero ∷ l) (reverse-stack (λ i. f (suc i)) n)
-
 -- ---- the list by place
 pub length-front : (f : ℕ → Point) (n : ℕ) → length (front f n) ≡ n
 length-front f zero = refl
@@ -45,21 +36,10 @@ point-front f zero i h = nowhere i h
 point-front f (suc n) zero h = refl
 point-front f (suc n) (suc i) h = point-front (λ i. f (suc i)) n i (omega arith)
 
--- the first places of a list
-pub front-point : (l : List Point) (n : ℕ) → n < suc (length l) → front (point l) n ≡ take n l
-front-point l zero h = refl
-front-point [] (suc n) h = nowhere n (omega arith)
-front-point (a ∷ l) (suc n) h = ap (λ m. a ∷ m) (front-point l n (omega arith))
-
 -- ---- the stack by place
 pub stack-in : (f : ℕ → Point) (n i : ℕ) → i < n → In (f i) (stack f n)
 stack-in f zero i h = nowhere i h
 stack-in f (suc n) i h = either (lt-or-le i n) (λ l. inr (stack-in f n i l)) (λ l. inl (ap f (omega arith)))
-
-pub in-stack : (f : ℕ → Point) (n : ℕ) (q : Point) → In q (stack f n) → (i : ℕ) × (i < n) × (q ≡ f i)
-in-stack f zero q m = absurd m
-in-stack f (suc n) q (inl e) = (n, omega arith, e)
-in-stack f (suc n) q (inr m) = let r = in-stack f n q m in (r .0, omega (arith, r .1), r .2)
 
 module _ (f : ℕ → Point) where
   pub stack-chain-place : (R : Point → Point → Type 0) (n : ℕ) → Chain R (stack f n) → (i : ℕ) → suc i < n → R (f (suc i)) (f i)

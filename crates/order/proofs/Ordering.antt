@@ -2,23 +2,46 @@
 use mathlib.Core.Path.{_≡_, refl, sym, _∙_, ap, subst}
 use mathlib.Core.Logic.{inl, inr}
 use mathlib.Core.List.{List, map}
-use Prim.Native.Nat.{ℕ, zero, suc}
+use Prim.Native.Nat.{ℕ, zero, suc, _/_, _≤_}
+use native.Mathlib.Omega.{arith}
 use lib.ListN.{length, take, length-map}
 use lib.Seq.{length-take-le}
 use lib.IntN.{ℤ}
-use Rattle.lattice.specs.Point.{points}
+use Rattle.lattice.specs.Point.{most, points}
 use Rattle.lattice.specs.Hull.{Of}
 use Rattle.lattice.specs.Refusal.{accepted, _when_else_, Gives, Whole, listRows}
 use Rattle.lattice.specs.Room.{holding, TooSmall}
 use Rattle.lattice.proofs.Refusals.{gives-unique}
 use Rattle.lattice.proofs.SameMembers.{lists-unique}
-use Rattle.lattice.proofs.Tables.{declined-before, passed-before, whole-first, whole-never}
+use Rattle.lattice.proofs.Tables.{declined-before, passed-before, whole-first, whole-never, list-few}
 use Rattle.packed.specs.Packed.{unpacked}
 use Rattle.order.specs.declared.Ordered.{Ordered}
 use Rattle.order.specs.Order.{orderRows, OrderResult, OrderPromise}
-use Rattle.order.specs.Keys.{Finds}
+use Rattle.order.specs.Keys.{KeysOf, FindResult, Finds}
 
-module _ (list room : List ℤ) (keys : List ℕ) where
+-- what `find` tells of an accepted list: its points stand packed, in row order, at the front of keys
+pub record FoundKeys (list : List ℤ) (answer : Ordered) (keys : List ℕ) : Type 0 where
+  pub passed : Gives (listRows list accepted) 0 (answer .place)
+  pub few : length (points list) ≤ most
+  pub all : answer .points ≡ length (points list)
+  pub inside : answer .points ≤ length keys
+  pub long : length (take (answer .points) keys) ≡ answer .points
+  pub keys-of : KeysOf (points list) (take (answer .points) keys)
+
+pub found-keys : {list : List ℤ} {answer : Ordered} {keys : List ℕ} → answer .number ≡ 0 → Finds list answer keys → FoundKeys list answer keys
+found-keys {list} {answer} {keys} e f =
+    let g = subst (λ n. Gives (listRows list accepted) n (answer .place)) e (f .gives) in
+    let r = subst (λ n. FindResult list n (answer .points) keys) e (f .result) in
+    record {
+      passed = g;
+      few = list-few list (answer .place) g;
+      all = r .0;
+      inside = r .1;
+      long = length-take-le (answer .points) keys (r .1);
+      keys-of = r .2;
+    }
+
+module _ {list : List ℤ} (room : List ℤ) {keys : List ℕ} where
   pub order-declined : (number place count : ℕ) → (number ≡ 0 → ⊥) → Finds list (record { number = number; place = place; points = count }) keys
       → OrderPromise list room (record { number = number; place = place; points = count }) room
   order-declined zero place count n f = absurd (n refl)
@@ -27,24 +50,24 @@ module _ (list room : List ℤ) (keys : List ℕ) where
     result = (f .result, refl);
   }
 
-  module _ (place count : ℕ) (f : Finds list (record { number = 0; place = place; points = count }) keys) where
+  module _ {answer : Ordered} (f : FoundKeys list answer keys) where
     later : (n i : ℕ) → Gives (5 when Whole (TooSmall room (length (points list))) else accepted) n i → Gives (orderRows list room accepted) n i
-    later n i g = passed-before (listRows list accepted) (5 when Whole (TooSmall room (length (points list))) else accepted) (tt, (tt, (tt, (tt, tt)))) place n i (f .gives) g
+    later n i g = passed-before (listRows list accepted) (5 when Whole (TooSmall room (length (points list))) else accepted) (tt, (tt, (tt, (tt, tt)))) (answer .place) n i (f .passed) g
 
-    pub order-small : TooSmall room count → OrderPromise list room (record { number = 5; place = 0; points = 0 }) room
+    pub order-small : TooSmall room (answer .points) → OrderPromise list room (record { number = 5; place = 0; points = 0 }) room
     order-small small = record {
-      gives = later 5 0 (inl (refl, whole-first (subst (TooSmall room) (f .result .0) small)));
+      gives = later 5 0 (inl (refl, whole-first (subst (TooSmall room) (f .all) small)));
       result = (refl, refl);
     }
 
-    pub order-done : (TooSmall room count → ⊥) → (after : List ℤ) → after ≡ holding (map unpacked (take count keys)) room
-        → OrderPromise list room (record { number = 0; place = 0; points = count }) after
+    pub order-done : answer .points ≤ length room / 2 → (after : List ℤ) → after ≡ holding (map unpacked (take (answer .points) keys)) room
+        → OrderPromise list room (record { number = 0; place = 0; points = answer .points }) after
     order-done wide after stands = record {
-      gives = later 0 0 (inr (whole-never (λ h. wide (subst (TooSmall room) (sym (f .result .0)) h)), (refl, refl)));
+      gives = later 0 0 (inr (whole-never (λ h. omega (arith, h, wide, f .all)), (refl, refl)));
       result = (
-        map unpacked (take count keys),
-        f .result .2 .lists,
-        sym (length-map (take count keys) unpacked ∙ length-take-le count keys (f .result .1)),
+        map unpacked (take (answer .points) keys),
+        f .keys-of .lists,
+        sym (length-map (take (answer .points) keys) unpacked ∙ f .long),
         stands,
       );
     }

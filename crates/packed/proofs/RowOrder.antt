@@ -4,9 +4,9 @@ use mathlib.Core.List.{[], _∷_}
 use Prim.Native.Nat.{ℕ, _+_, _/_, _%_, _≤_, _<_}
 use native.Mathlib.Omega.{arith}
 use lib.Dec.{ltb→lt, le→leb, lt→ltb}
-use lib.IntN.{ℤ, pos, natAbs, _+ℤ_, _-ℤ_}
-use Rattle.whole.proofs.Whole.{ring, quote, _≤ᶻ_, _<ᶻ_, NonNegative, natural, gap≤, gap<, linear≤, linear<, linear≡, _∗≡_}
-use Rattle.lattice.specs.Point.{Point, InRange, Before, row, column}
+use lib.IntN.{ℤ, pos, natAbs, _-ℤ_}
+use Rattle.whole.proofs.Whole.{quote, _≤ᶻ_, _<ᶻ_, NonNegative, natural, gap≤, gap<, linear≤, linear<, linear≡, _∗≡_}
+use Rattle.lattice.specs.Point.{Point, least, InRange, Before, row, column}
 use Rattle.lattice.proofs.Lists.{either}
 use Rattle.lattice.proofs.HalfPlane.{point-equal}
 use Rattle.lattice.proofs.Places.{lt-or-le}
@@ -14,10 +14,10 @@ use Rattle.packed.specs.Packed.{offset, side, cells, moved, placed, pack
 use Rattle.packed.proofs.Border.{moved-is, moved-small}
 
 -- ---- one coordinate
-placed-moved : (z : ℤ) → pos offset +ℤ z ≡ pos (moved z) → placed (moved z) ≡ z
-placed-moved z e = linear≡ (z ∷ pos (moved z) ∷ []) (pos 1 ∗≡ sym e) (search quote depth 20) tt
+pub placed-moved : (z : ℤ) → least ≤ᶻ z → placed (moved z) ≡ z
+placed-moved z h = linear≡ (z ∷ pos (moved z) ∷ []) (pos 1 ∗≡ sym (moved-is z h)) (search quote depth 20) tt
 
-placed-order : (m n : ℕ) → m < n → placed m <ᶻ placed n
+pub placed-order : (m n : ℕ) → m < n → placed m <ᶻ placed n
 placed-order m n h =
     let l : pos m <ᶻ pos n = record { lt = lt→ltb m n h } in
     linear< (pos m ∷ pos n ∷ []) (gap< l) (search quote depth 20) tt
@@ -27,12 +27,12 @@ placed-grows m n h =
     let l : pos m ≤ᶻ pos n = record { le = le→leb m n h } in
     linear≤ (pos m ∷ pos n ∷ []) (gap≤ l) (search quote depth 20) tt
 
-order-placed : (m n : ℕ) → placed m <ᶻ placed n → m < n
+pub order-placed : (m n : ℕ) → placed m <ᶻ placed n → m < n
 order-placed m n h =
     let l : pos m <ᶻ pos n = linear< (pos m ∷ pos n ∷ []) (gap< h) (search quote depth 20) tt in
     ltb→lt m n (l .lt)
 
-placed-injective : (m n : ℕ) → placed m ≡ placed n → m ≡ n
+pub placed-injective : (m n : ℕ) → placed m ≡ placed n → m ≡ n
 placed-injective m n e =
     let f : pos m ≡ pos n = linear≡ (pos m ∷ pos n ∷ []) (pos 1 ∗≡ e) (search quote depth 20) tt in
     ap natAbs f
@@ -62,8 +62,8 @@ unpacked-packed p r =
     let e : packed p % side ≡ moved (p .x) = omega arith in
     let f : packed p / side ≡ moved (p .y) = omega arith in
     point-equal
-    (ap placed e ∙ placed-moved (p .x) (ring (p .x ∷ []) (search quote depth 20) tt ∙ moved-is (p .x) (r .x-from)))
-    (ap placed f ∙ placed-moved (p .y) (ring (p .y ∷ []) (search quote depth 20) tt ∙ moved-is (p .y) (r .y-from)))
+    (ap placed e ∙ placed-moved (p .x) (r .x-from))
+    (ap placed f ∙ placed-moved (p .y) (r .y-from))
 
 pub unpacked-injective : (k l : ℕ) → unpacked k ≡ unpacked l → k ≡ l
 unpacked-injective k l e =

@@ -1,7 +1,8 @@
 -- What a comparison of signed numbers that came out true or false says of them. Assumes nothing.
-use mathlib.Core.Path.{_≡_, sym, _∙_, ap, subst}
+use mathlib.Core.Path.{_≡_, refl, sym, _∙_, ap, subst}
 use mathlib.Core.Bool.{Bool, true, false, not}
-use lib.Dec.{T}
+use borrow.Author.Tests.{eqb-true, eqb-false}
+use lib.Dec.{T, eqb}
 use lib.IntN.{ℤ}
 use lib.Signed.{_≤ℤ_, _<ℤ_, ltZ, ltZ-no}
 use mir.Syntax.{w32}
@@ -36,3 +37,11 @@ tells-no {b} {P} e h = subst (λ t. Tells t P) e h
 pub tells-as : (b : Bool) {P Q : Type 0} → (P → Q) → (Q → P) → Tells b P → Tells b Q
 tells-as true f g h = f h
 tells-as false f g h = λ q. h (g q)
+
+-- the machine's test of two signed numbers for equality
+pub tells-equal : (a b : ℤ) → SFits w32 a → SFits w32 b → Tells (eqb (ofZ w32 a) (ofZ w32 b)) (a ≡ b)
+tells-equal a b f g = by-test (eqb (ofZ w32 a) (ofZ w32 b)) refl
+  where
+    by-test : (t : Bool) → eqb (ofZ w32 a) (ofZ w32 b) ≡ t → Tells t (a ≡ b)
+    by-test true e = sym (read-back a f) ∙ ap (toZ w32) (eqb-true (ofZ w32 a) (ofZ w32 b) e) ∙ read-back b g
+    by-test false e = λ d. eqb-false (ofZ w32 a) (ofZ w32 b) e (ap (ofZ w32) d)

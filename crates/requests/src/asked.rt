@@ -14,7 +14,7 @@ pub struct Asked {
 }
 
 // Reads `LIST ROOM`.
-pub fn read_order(
+pub(crate) fn read_order(
     input: &mut [u8],
     list: &mut [i32],
     ordered: &mut [i32],
@@ -66,7 +66,7 @@ fn with_missing(input: &mut [u8], missing: &mut [i32], asked: Asked) -> Asked {
 }
 
 // Reads `LIST ROOM ROOM`.
-pub fn read_hull(
+pub(crate) fn read_hull(
     input: &mut [u8],
     list: &mut [i32],
     ordered: &mut [i32],
@@ -78,7 +78,7 @@ pub fn read_hull(
 }
 
 // Reads `LIST ROOM ROOM ROOM`.
-pub fn read_report(
+pub(crate) fn read_report(
     input: &mut [u8],
     list: &mut [i32],
     ordered: &mut [i32],

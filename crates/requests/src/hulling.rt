@@ -48,7 +48,7 @@ fn write_hull(
 }
 
 // Hull: `2 LIST ROOM ROOM`.
-pub fn hull(
+pub(crate) fn hull(
     input: &mut [u8],
     output: &mut [u8],
     list: &mut [i32],

@@ -3,7 +3,6 @@
 // own, so that a comparison stops there.
 mod asked;
 mod hulling;
-mod octets;
 mod ordering;
 mod parts;
 mod reading;

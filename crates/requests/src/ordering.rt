@@ -34,7 +34,7 @@ fn write_order(
 }
 
 // Order: `1 LIST ROOM`.
-pub fn order(
+pub(crate) fn order(
     input: &mut [u8],
     output: &mut [u8],
     list: &mut [i32],

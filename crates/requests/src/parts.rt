@@ -1,5 +1,7 @@
 // The parts of a request that the calls share: lists and rooms, read into arrays of the caller's, and what a call left
 // in a room.
+ghost use mathlib.Core.Path.{_≡_};
+ghost use lib.IntN.{pos};
 ghost use Rattle.requests.specs.Counts.{Counts};
 use crate::reading;
 use crate::reading::Source;
@@ -27,7 +29,9 @@ pub struct RoomRead {
 }
 
 // A room of no number, where a call has none.
-pub fn no_room() -> Room {
+pub(crate) fn no_room() -> Room
+    ensures { λ r. ⌜ r ≡ record { length = 0; first = pos 0 } ⌝ }
+{
     Room {
         length: 0,
         first: 0,
@@ -50,7 +54,7 @@ fn numbers(input: &mut [u8], source: Source, part: &mut [i32]) -> Source {
 
 // A count, if an array has that many numbers, and else 0. It takes the array and not its length, so that its contract
 // can speak of the array, and a part is lent with no further proof.
-pub fn within(count: usize, array: &[i32]) -> usize
+pub(crate) fn within(count: usize, array: &[i32]) -> usize
     ensures { λ r. ⌜ Counts r (now (array .entry)) ⌝ }
 {
     if count <= array.len() {
@@ -60,7 +64,7 @@ pub fn within(count: usize, array: &[i32]) -> usize
 }
 
 // A list: how many numbers, and the numbers.
-pub fn read_list(input: &mut [u8], source: Source, array: &mut [i32]) -> Listed {
+pub(crate) fn read_list(input: &mut [u8], source: Source, array: &mut [i32]) -> Listed {
     let read = reading::next_count(input, source);
     let count = within(read.value, array);
     let behind = numbers(input, read.source, &mut array[..count]);
@@ -100,7 +104,7 @@ fn fill(part: &mut [i32], first: i32) -> usize {
 }
 
 // A room: its length and its first number.
-pub fn read_room(input: &mut [u8], source: Source, array: &mut [i32]) -> RoomRead {
+pub(crate) fn read_room(input: &mut [u8], source: Source, array: &mut [i32]) -> RoomRead {
     let read = reading::next_count(input, source);
     let number = reading::next_number(input, read.source);
     let first = number.value;
@@ -145,7 +149,7 @@ fn write_part(output: &mut [u8], sink: Sink, part: &[i32], first: i32) -> Sink {
 }
 
 // What a call left in a room.
-pub fn write_room(output: &mut [u8], sink: Sink, array: &[i32], room: Room) -> Sink {
+pub(crate) fn write_room(output: &mut [u8], sink: Sink, array: &[i32], room: Room) -> Sink {
     let length = within(room.length, array);
     write_part(output, sink, &array[..length], room.first)
 }

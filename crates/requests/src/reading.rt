@@ -2,6 +2,10 @@
 //
 // A fault stays: once a source is not sound, every further number is 0, and the source stays as it is. So a request
 // is read to its end first, and asked once whether all of it was sound.
+ghost use mathlib.Core.Path.{_≡_};
+ghost use mathlib.Core.Bool.{true, _&&_};
+ghost use lib.Dec.{eqb};
+ghost use Rattle.requests.specs.Faults.{faulted};
 use libc::STDIN_FILENO;
 
 // What ends a number: a blank inside a request, a line end behind one. No request has a byte 0, so the end of the
@@ -10,7 +14,7 @@ pub const BLANK: u8 = 32;
 
 pub const LINE_END: u8 = 10;
 
-pub const INPUT_END: u8 = 0;
+const INPUT_END: u8 = 0;
 
 const MINUS: u8 = 45;
 
@@ -35,9 +39,9 @@ pub struct Source {
 }
 
 // A byte, and the source behind it.
-pub struct Byte {
-    pub value: u8,
-    pub source: Source,
+struct Byte {
+    value: u8,
+    source: Source,
 }
 
 // Digits as a number, how many they were, and the byte behind them.
@@ -72,7 +76,9 @@ pub struct Call {
 }
 
 // Before the first byte.
-pub fn start() -> Source {
+pub(crate) fn start() -> Source
+    ensures { λ r. ⌜ r ≡ record { at = 0; fill = 0; last = 10; sound = true } ⌝ }
+{
     Source {
         at: 0,
         fill: 0,
@@ -82,7 +88,9 @@ pub fn start() -> Source {
 }
 
 // The source, with a fault found.
-pub fn faulty(source: Source) -> Source {
+pub(crate) fn faulty(source: Source) -> Source
+    ensures { λ r. ⌜ r ≡ faulted source ⌝ }
+{
     Source {
         at: source.at,
         fill: source.fill,
@@ -92,7 +100,9 @@ pub fn faulty(source: Source) -> Source {
 }
 
 // Whether a whole request was read and all of it was sound.
-pub fn is_whole(source: Source) -> bool {
+pub(crate) fn is_whole(source: Source) -> bool
+    ensures { λ r. ⌜ r ≡ (source .sound && eqb (source .last) 10) ⌝ }
+{
     source.sound && source.last == LINE_END
 }
 
@@ -125,7 +135,7 @@ fn refilled(input: &mut [u8], source: Source) -> Byte {
 }
 
 // The next byte.
-pub fn next_byte(input: &mut [u8], source: Source) -> Byte {
+fn next_byte(input: &mut [u8], source: Source) -> Byte {
     let at = source.at;
     if at < source.fill {
         if at < input.len() {
@@ -257,7 +267,7 @@ fn signed(magnitude: u64, negative: bool) -> i32 {
 }
 
 // The next number of a request, a signed 32-bit number.
-pub fn next_number(input: &mut [u8], source: Source) -> Number {
+pub(crate) fn next_number(input: &mut [u8], source: Source) -> Number {
     let read = next_word(input, source);
     let behind = read.source;
     if is_signed(read.magnitude, read.negative) {
@@ -288,12 +298,12 @@ fn counted(read: Word) -> Count {
 }
 
 // The next number of a request, a count.
-pub fn next_count(input: &mut [u8], source: Source) -> Count {
+pub(crate) fn next_count(input: &mut [u8], source: Source) -> Count {
     counted(next_word(input, source))
 }
 
 // The number of the next request's call. Only between requests the input may end.
-pub fn next_call(input: &mut [u8], source: Source) -> Call {
+pub(crate) fn next_call(input: &mut [u8], source: Source) -> Call {
     let first = next_byte(input, source);
     if first.value == INPUT_END {
         let behind = first.source;

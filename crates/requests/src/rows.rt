@@ -14,6 +14,12 @@ struct RowAsked {
     source: Source,
 }
 
+// What is wanted of a row: where its points begin and end, or the part of the list between.
+enum Wanted {
+    Ends,
+    Part,
+}
+
 // Reads `LIST y`.
 fn read_row(input: &mut [u8], list: &mut [i32], source: Source) -> RowAsked {
     let listed = parts::read_list(input, source, list);
@@ -35,27 +41,6 @@ fn write_row_ends(output: &mut [u8], list: &[i32], y: i32, sink: Sink) -> Sink {
     writing::line_end(output, end)
 }
 
-// Row ends: `5 LIST y`.
-pub fn row_ends(
-    input: &mut [u8],
-    output: &mut [u8],
-    list: &mut [i32],
-    source: Source,
-    sink: Sink,
-) -> State {
-    let asked = read_row(input, list, source);
-    let behind = asked.source;
-    if reading::is_whole(behind) {
-        let count = parts::within(asked.count, list);
-        let written = write_row_ends(output, &list[..count], asked.y, sink);
-        return State {
-            source: behind,
-            sink: written,
-        };
-    }
-    state::bad(behind, sink)
-}
-
 // Answers the numbers of the part.
 fn write_row(output: &mut [u8], list: &[i32], y: i32, sink: Sink) -> Sink {
     let part = order::row(list, y);
@@ -63,11 +48,20 @@ fn write_row(output: &mut [u8], list: &[i32], y: i32, sink: Sink) -> Sink {
     writing::line_end(output, written)
 }
 
-// Row: `6 LIST y`.
-pub fn row(
+// Answers what is wanted of a row.
+fn write_wanted(output: &mut [u8], list: &[i32], y: i32, wanted: Wanted, sink: Sink) -> Sink {
+    match wanted {
+        Wanted::Ends => write_row_ends(output, list, y, sink),
+        Wanted::Part => write_row(output, list, y, sink),
+    }
+}
+
+// Reads `LIST y`, and answers what is wanted.
+fn answered(
     input: &mut [u8],
     output: &mut [u8],
     list: &mut [i32],
+    wanted: Wanted,
     source: Source,
     sink: Sink,
 ) -> State {
@@ -75,11 +69,33 @@ pub fn row(
     let behind = asked.source;
     if reading::is_whole(behind) {
         let count = parts::within(asked.count, list);
-        let written = write_row(output, &list[..count], asked.y, sink);
+        let written = write_wanted(output, &list[..count], asked.y, wanted, sink);
         return State {
             source: behind,
             sink: written,
         };
     }
     state::bad(behind, sink)
+}
+
+// Row ends: `5 LIST y`.
+pub(crate) fn row_ends(
+    input: &mut [u8],
+    output: &mut [u8],
+    list: &mut [i32],
+    source: Source,
+    sink: Sink,
+) -> State {
+    answered(input, output, list, Wanted::Ends, source, sink)
+}
+
+// Row: `6 LIST y`.
+pub(crate) fn row(
+    input: &mut [u8],
+    output: &mut [u8],
+    list: &mut [i32],
+    source: Source,
+    sink: Sink,
+) -> State {
+    answered(input, output, list, Wanted::Part, source, sink)
 }

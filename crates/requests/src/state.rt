@@ -1,4 +1,6 @@
 // What a request leaves: how far was read, and how far was written.
+ghost use mathlib.Core.Path.{_≡_};
+ghost use Rattle.requests.specs.Faults.{faulted};
 use crate::reading;
 use crate::reading::Source;
 use crate::writing::Sink;
@@ -10,7 +12,9 @@ pub struct State {
 }
 
 // After a request that is no request.
-pub fn bad(source: Source, sink: Sink) -> State {
+pub(crate) fn bad(source: Source, sink: Sink) -> State
+    ensures { λ r. ⌜ (r .source ≡ faulted source) × (r .sink ≡ sink) ⌝ }
+{
     State {
         source: reading::faulty(source),
         sink,

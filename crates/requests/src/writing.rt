@@ -1,4 +1,6 @@
 // Lines of numbers to standard output, through a buffer of the caller's that is written out whenever it is full.
+ghost use mathlib.Core.Path.{_≡_};
+ghost use mathlib.Core.Bool.{true, false};
 ghost use Prim.Native.Nat.{_<_};
 use crate::reading::BLANK;
 use crate::reading::LINE_END;
@@ -15,7 +17,9 @@ pub struct Sink {
 }
 
 // Before the first byte.
-pub fn start() -> Sink {
+pub(crate) fn start() -> Sink
+    ensures { λ r. ⌜ r ≡ record { at = 0; begun = false; «open» = true } ⌝ }
+{
     Sink {
         at: 0,
         begun: false,
@@ -24,7 +28,7 @@ pub fn start() -> Sink {
 }
 
 // Writes the buffer out.
-pub fn flushed(output: &[u8], sink: Sink) -> Sink {
+pub(crate) fn flushed(output: &[u8], sink: Sink) -> Sink {
     let at = sink.at;
     let begun = sink.begun;
     if sink.open {
@@ -64,7 +68,7 @@ fn byte(output: &mut [u8], sink: Sink, value: u8) -> Sink {
 }
 
 // Bytes more.
-pub fn bytes(output: &mut [u8], sink: Sink, text: &[u8]) -> Sink {
+pub(crate) fn bytes(output: &mut [u8], sink: Sink, text: &[u8]) -> Sink {
     let mut last = sink;
     let mut i: usize = 0;
     while i < text.len() {
@@ -95,7 +99,7 @@ fn digits(output: &mut [u8], sink: Sink, value: u64) -> Sink {
 }
 
 // A number that is not negative.
-pub fn natural(output: &mut [u8], sink: Sink, value: u64) -> Sink {
+pub(crate) fn natural(output: &mut [u8], sink: Sink, value: u64) -> Sink {
     let begun = separated(output, sink);
     digits(output, begun, value)
 }
@@ -127,7 +131,7 @@ fn signed(output: &mut [u8], sink: Sink, value: i32) -> Sink {
 }
 
 // A number.
-pub fn number(output: &mut [u8], sink: Sink, value: i32) -> Sink {
+fn number(output: &mut [u8], sink: Sink, value: i32) -> Sink {
     let begun = separated(output, sink);
     let begun = signed(output, begun, value);
     digits(output, begun, magnitude(value))
@@ -146,13 +150,13 @@ fn numbers(output: &mut [u8], sink: Sink, list: &[i32]) -> Sink {
 }
 
 // A list: how many numbers, and the numbers.
-pub fn list(output: &mut [u8], sink: Sink, list: &[i32]) -> Sink {
+pub(crate) fn list(output: &mut [u8], sink: Sink, list: &[i32]) -> Sink {
     let counted = natural(output, sink, list.len() as u64);
     numbers(output, counted, list)
 }
 
 // The end of a line.
-pub fn line_end(output: &mut [u8], sink: Sink) -> Sink {
+pub(crate) fn line_end(output: &mut [u8], sink: Sink) -> Sink {
     let ended = byte(output, sink, LINE_END);
     Sink {
         at: ended.at,

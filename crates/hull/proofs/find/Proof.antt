@@ -1,15 +1,9 @@
 -- `hull::find` meets its contract: what order::find tells, the corners, and both rooms. Assumes nothing.
-use Prim.Native.Nat.{ℕ}
-use mathlib.Core.Path.{_≡_, sym, subst}
-use mathlib.Core.List.{List}
+use mathlib.Core.Path.{sym}
 use native.Mathlib.Omega.{arith}
 use borrow.Author.Needs.{needs}
 use denote.Ref.{now}
-use lib.ListN.{length, take}
-use lib.Seq.{length-take-le}
-use lib.IntN.{ℤ}
-use Rattle.lattice.proofs.Tables.{list-few}
-use Rattle.order.specs.Keys.{Finds}
+use Rattle.order.proofs.Ordering.{FoundKeys, found-keys}
 use Rattle.hull.proofs.Hulling.{keys-rise, find-declined, find-ordered-small, find-corners-small, find-found, find-as}
 use Rattle.hull.proofs.find.Statement.{statement}
 use Rattle.hull.proofs.find.Tie as tie
@@ -35,31 +29,10 @@ returns c = let f = c .before .before .before .before .before .before .before .b
     find-as (c .declined .ensures) (find-declined _ _ _ _ _ (f .result .number) (f .result .place) (f .result .points) (c .before .if1 .taken) (f .ensures))
 
 -- the list is accepted: what `order::find` tells of it
-abbrev list-of : tie.Else1 → List ℤ
-list-of c = now (c .before .before .before .before .before .before .before .before .before .before .before .before .before .before .before .args .list)
-
-abbrev ordered-of : tie.Else1 → List ℤ
-ordered-of c = now (c .before .before .before .before .before .before .before .before .before .before .before .before .before .before .before .args .ordered)
-
-abbrev corners-of : tie.Else1 → List ℤ
-corners-of c = now (c .before .before .before .before .before .before .before .before .before .before .before .before .before .before .before .args .corners)
-
-abbrev keys-of : tie.Else1 → List ℕ
-keys-of c = c .before .before .before .before .before .before .before .find .last .1 .1 .1 .0
-
-abbrev count : tie.Else1 → ℕ
-count c = c .before .before .before .before .before .before .before .find .result .points
-
-abbrev place : tie.Else1 → ℕ
-place c = c .before .before .before .before .before .before .before .find .result .place
-
-found : (c : tie.Else1) → Finds (list-of c) (record { number = 0; place = place c; points = count c }) (keys-of c)
-found c =
-    subst (λ n. Finds (list-of c) (record { number = n; place = place c; points = count c }) (keys-of c)) (c .if1 .left)
-    (c .before .before .before .before .before .before .before .find .ensures)
-
-long : (c : tie.Else1) → length (take (count c) (keys-of c)) ≡ count c
-long c = length-take-le (count c) (keys-of c) (found c .result .1)
+found : (c : tie.Else1)
+    → FoundKeys (now (c .before .before .before .before .before .before .before .before .before .before .before .before .before .before .before .args .list)) (c .before .before .before .before .before .before .before .find .result)
+    (c .before .before .before .before .before .before .before .find .last .1 .1 .1 .0)
+found c = found-keys (c .if1 .left) (c .before .before .before .before .before .before .before .find .ensures)
 
 declined-requires-2 : tie.Need-declined-requires-2
 declined-requires-2 c κs = search needs
@@ -74,18 +47,19 @@ same-length-6 : tie.Need-same-length-6
 same-length-6 c = search needs
 
 returns-2 : tie.Need-returns-2
-returns-2 c = let e = c .before .before in
-    find-as (c .declined2 .ensures) (find-ordered-small _ _ _ (keys-of e) _ (place e) (count e) (found e) (c .before .if2 .taken))
+returns-2 c =
+    find-as (c .declined2 .ensures) (find-ordered-small _ _ _ _ _ (found (c .before .before)) (c .before .if2 .taken))
 
 slice-reshare-prefix-scan : tie.Need-slice-reshare-prefix-scan
-slice-reshare-prefix-scan c = found (c .before) .result .1
+slice-reshare-prefix-scan c = found (c .before) .inside
 
 slice-aggregate-scan : tie.Need-slice-aggregate-scan
-slice-aggregate-scan c = sym (long (c .before .before))
+slice-aggregate-scan c = sym (found (c .before .before) .long)
 
 scan-requires : tie.Need-scan-requires
 scan-requires c κs = let e = c .before .before .before in
-    (keys-rise _ _ (found e .result .2), omega (arith, long e, found e .result .0, e .before .before .before .before .before .before .before .before .before .before .before .before .before .before .before .pre .3 (list-few (list-of e) _ (found e .gives))))
+    let f = found e in
+    (keys-rise _ _ (f .keys-of), omega (arith, f .long, f .all, e .before .before .before .before .before .before .before .before .before .before .before .before .before .before .before .pre .3 (f .few)))
 
 declined-requires-3 : tie.Need-declined-requires-3
 declined-requires-3 c κs = search needs
@@ -103,8 +77,8 @@ same-length-10 : tie.Need-same-length-10
 same-length-10 c = search needs
 
 returns-3 : tie.Need-returns-3
-returns-3 c = let e = c .before .before .before .before .before .before .before .before in
-    find-as (c .declined3 .ensures) (find-corners-small _ (ordered-of e) _ (keys-of e) _ (place e) (count e) (found e) (λ h. omega (arith, h, c .before .before .before .before .before .before .before .if2 .left)) _ (c .before .before .before .before .scan .ensures) (c .before .if3 .taken))
+returns-3 c = let e = c .before .before .before .before .before .before .before in
+    find-as (c .declined3 .ensures) (find-corners-small _ _ _ _ _ (found (e .before)) (e .if2 .left) (c .before .before .before .before .scan .ensures) (c .before .if3 .taken))
 
 same-length-11 : tie.Need-same-length-11
 same-length-11 c = search needs
@@ -119,9 +93,8 @@ same-length-14 : tie.Need-same-length-14
 same-length-14 c = search needs
 
 returns-4 : tie.Need-returns-4
-returns-4 c = let e = c .before .before .before .before .before .before .before in
-    find-found _ (ordered-of e) (corners-of e) (keys-of e) _ (place e) (count e) (found e) (λ h. omega (arith, h, c .before .before .before .before .before .before .if2 .left)) _
-    (c .before .before .before .scan .ensures) (λ h. omega (arith, h, c .if3 .left))
+returns-4 c = let e = c .before .before .before .before .before .before in
+    find-found _ _ _ _ _ (found (e .before)) (e .if2 .left) (c .before .before .before .scan .ensures) (c .if3 .left)
 
 pub find-spec : {M : Type 1} → statement M
 find-spec =

@@ -1,15 +1,9 @@
 -- `order::order_in` meets its contract: what find tells, and the room of the points. Assumes nothing.
-use Prim.Native.Nat.{ℕ}
-use mathlib.Core.Path.{_≡_, sym, subst}
-use mathlib.Core.List.{List}
+use mathlib.Core.Path.{sym}
 use native.Mathlib.Omega.{arith}
 use borrow.Author.Needs.{needs}
 use denote.Ref.{now}
-use lib.ListN.{length, take}
-use lib.Seq.{length-take-le}
-use lib.IntN.{ℤ}
-use Rattle.order.specs.Keys.{Finds}
-use Rattle.order.proofs.Ordering.{order-declined, order-small, order-done, order-as}
+use Rattle.order.proofs.Ordering.{FoundKeys, found-keys, order-declined, order-small, order-done, order-as}
 use Rattle.order.proofs.order_in.Statement.{statement}
 use Rattle.order.proofs.order_in.Tie as tie
 
@@ -27,28 +21,13 @@ same-length-3 c = search needs
 
 returns : tie.Need-returns
 returns c = let f = c .before .before .before .before .before .before .before .find in
-    order-declined _ _ _ (f .result .number) (f .result .place) (f .result .points) (c .if1 .taken) (f .ensures)
+    order-declined _ (f .result .number) (f .result .place) (f .result .points) (c .if1 .taken) (f .ensures)
 
--- the list is accepted: what `find` tells of it, and how many points it has
-abbrev list-of : tie.Else1 → List ℤ
-list-of c = now (c .before .before .before .before .before .before .before .before .before .before .before .before .before .before .args .list)
-
-abbrev keys-of : tie.Else1 → List ℕ
-keys-of c = c .before .before .before .before .before .before .before .find .last .1 .1 .1 .0
-
-abbrev count : tie.Else1 → ℕ
-count c = c .before .before .before .before .before .before .before .find .result .points
-
-abbrev place : tie.Else1 → ℕ
-place c = c .before .before .before .before .before .before .before .find .result .place
-
-found : (c : tie.Else1) → Finds (list-of c) (record { number = 0; place = place c; points = count c }) (keys-of c)
-found c =
-    subst (λ n. Finds (list-of c) (record { number = n; place = place c; points = count c }) (keys-of c)) (c .if1 .left)
-    (c .before .before .before .before .before .before .before .find .ensures)
-
-long : (c : tie.Else1) → length (take (count c) (keys-of c)) ≡ count c
-long c = length-take-le (count c) (keys-of c) (found c .result .1)
+-- the list is accepted: what `find` tells of it
+found : (c : tie.Else1)
+    → FoundKeys (now (c .before .before .before .before .before .before .before .before .before .before .before .before .before .before .args .list)) (c .before .before .before .before .before .before .before .find .result)
+    (c .before .before .before .before .before .before .before .find .last .1 .1 .1 .0)
+found c = found-keys (c .if1 .left) (c .before .before .before .before .before .before .before .find .ensures)
 
 declined-requires : tie.Need-declined-requires
 declined-requires c κs = search needs
@@ -63,18 +42,17 @@ same-length-6 : tie.Need-same-length-6
 same-length-6 c = search needs
 
 returns-2 : tie.Need-returns-2
-returns-2 c = let e = c .before .before in
-    order-as (c .declined .ensures) (order-small _ _ (keys-of e) (place e) (count e) (found e) (c .before .if2 .taken))
+returns-2 c = order-as (c .declined .ensures) (order-small _ (found (c .before .before)) (c .before .if2 .taken))
 
 slice-reshare-prefix-write : tie.Need-slice-reshare-prefix-write
-slice-reshare-prefix-write c = found (c .before) .result .1
+slice-reshare-prefix-write c = found (c .before) .inside
 
 slice-aggregate-write : tie.Need-slice-aggregate-write
-slice-aggregate-write c = sym (long (c .before .before))
+slice-aggregate-write c = sym (found (c .before .before) .long)
 
 write-requires : tie.Need-write-requires
-write-requires c κs = let e = c .before .before .before in
-    (found e .result .2 .below, omega (arith, long e, c .before .before .if2 .left))
+write-requires c κs = let f = found (c .before .before .before) in
+    (f .keys-of .below, omega (arith, f .long, c .before .before .if2 .left))
 
 same-length-7 : tie.Need-same-length-7
 same-length-7 c = search needs
@@ -89,8 +67,8 @@ same-length-10 : tie.Need-same-length-10
 same-length-10 c = search needs
 
 returns-3 : tie.Need-returns-3
-returns-3 c = let e = c .before .before .before .before .before in
-    order-done _ _ (keys-of e) (place e) (count e) (found e) (λ h. omega (arith, h, c .before .before .before .before .if2 .left)) _ (c .before .write .ensures)
+returns-3 c = let e = c .before .before .before .before in
+    order-done _ (found (e .before)) (e .if2 .left) _ (c .before .write .ensures)
 
 pub order-in-spec : {M : Type 1} → statement M
 order-in-spec =

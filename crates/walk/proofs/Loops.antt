@@ -1,0 +1,298 @@
+-- What the loops over the rows of a hull have done before row y: counted, written, looked for. Assumes nothing.
+use mathlib.Core.Path.{_≡_, refl, sym, _∙_, ap, subst}
+use mathlib.Core.List.{List, [], _++_, map, append-nil}
+use Prim.Native.Nat.{ℕ, _+_, _-_, _*_, _/_, _%_, _≤_, _<_}
+use native.Mathlib.Omega.{arith}
+use borrow.Rule.Slice.PartMut.{putMid}
+use lib.ListN.{length, getD, take, drop, length-append, length-drop, drop-of-length-le}
+use lib.Seq.{take-all}
+use lib.IntN.{ℤ}
+use lib.Signed.{_≤ℤ_, _<ℤ_}
+use Rattle.lattice.specs.Point.{Point, points, point, In, Lists}
+use Rattle.lattice.specs.Room.{holding}
+use Rattle.lattice.proofs.Lists.{either}
+use Rattle.lattice.proofs.Places.{lt-or-le, nowhere, all-place}
+use Rattle.lattice.proofs.RowLists.{lists-fewer}
+use Rattle.lattice.proofs.Rooms.{holding-length, holding-then}
+use Rattle.lattice.proofs.SameMembers.{lists-same}
+use Rattle.packed.specs.Packed.{side, cells, placed, unpacked}
+use Rattle.packed.proofs.RowOrder.{placed-injective, placed-order}
+use Rattle.order.specs.Row.{Holds, LeadsTo}
+use Rattle.stretch.specs.Stretch.{cell, StretchOf}
+use Rattle.stretch.specs.declared.Stretch.{Stretch}
+use Rattle.walk.specs.Walk.{HullOf, Cornered, Walked, Lacking, CountOf, FirstOf, Takes, Puts, Greatest, Gap}
+use Rattle.walk.proofs.Rows.{part, row-next, holds-leads}
+use Rattle.walk.proofs.Gaps.{Held, Passed, passed-none, passed-held, held-in, gap-here}
+use Rattle.walk.proofs.Walking.{Upto, upto-none, upto-all, upto-more, in-rows, last-row, row-is, gap-lacking, lacking-gap, gaps-exist, columns-listed}
+
+-- the packed point of a cell
+at-cell : (x y : ℕ) → x < side → unpacked (side * y + x) ≡ cell x y
+at-cell x y h =
+    let e : (side * y + x) % side ≡ x = omega arith in
+    let f : (side * y + x) / side ≡ y = omega arith in
+    λ i. record { x = placed (e i); y = placed (f i) }
+
+-- row y is one of the hull's, or the one after the last
+pub record Between (corners : List ℕ) (last y : ℕ) : Type 0 where
+  pub from : getD corners 0 0 / side ≤ y
+  pub upto : y ≤ last / side + 1
+
+-- a hull without any list
+pub walked-alone : (corners : List ℕ) → Cornered corners → Walked corners []
+walked-alone corners h = record { cornered = h; order = tt; inside = tt }
+
+none-held : (y : ℕ) → Holds [] (placed y) 0 0
+none-held y = record {
+  rising = omega arith;
+  inside = omega arith;
+  before = λ i u. nowhere i u;
+  within = λ i u v. nowhere i v;
+  after = λ i u v. nowhere i v;
+}
+
+-- ---- what is lacking, row by row
+module _ (corners : List ℕ) (list : List ℤ) (w : Walked corners list) (some : 0 < length corners) (last : ℕ) (g : Greatest corners last) where
+  rows : (p : Point) → Lacking corners list p → (placed (getD corners 0 0 / side) ≤ℤ p .y) × (p .y <ℤ placed (last / side + 1))
+  rows p l = in-rows corners (w .cornered) some last g p (l .within)
+
+  pub between-first : Between corners last (getD corners 0 0 / side)
+  between-first = record { from = omega arith; upto = omega (arith, g .greatest 0 some) }
+
+  pub none-yet : Lists (Upto (Lacking corners list) (getD corners 0 0 / side)) []
+  none-yet = upto-none (Lacking corners list) (getD corners 0 0 / side) (λ p l. rows p l .0)
+
+  module _ (y : ℕ) (b : Between corners last y) where
+    -- past the last row
+    pub before-past : last / side < y → (p : Point) → Lacking corners list p → p .y <ℤ placed y
+    before-past u p l = let e : last / side + 1 ≡ y = omega (arith, b .upto) in
+        subst (λ n. p .y <ℤ placed n) e (rows p l .1)
+
+    pub all-passed : last / side < y → (l : List Point) → Lists (Upto (Lacking corners list) y) l → Lists (Lacking corners list) l
+    all-passed u = upto-all (Lacking corners list) y (before-past u)
+
+    -- one row more
+    pub between-next : y ≤ last / side → Between corners last (y + 1)
+    between-next u = record { from = omega (arith, b .from); upto = omega arith }
+
+-- ---- counted
+pub record Counted (corners : List ℕ) (last y total : ℕ) : Type 0 where
+  pub between : Between corners last y
+  pub count : CountOf (Upto (Lacking corners []) y) total
+  pub small : total ≤ side * y
+
+module _ (corners : List ℕ) (h : Cornered corners) (some : 0 < length corners) (last : ℕ) (g : Greatest corners last) where
+  alone : Walked corners []
+  alone = walked-alone corners h
+
+  pub counted-none : Counted corners last (getD corners 0 0 / side) 0
+  counted-none = record {
+    between = between-first corners [] alone some last g;
+    count = ([], none-yet corners [] alone some last g, refl);
+    small = omega arith;
+  }
+
+  module _ (y total : ℕ) (d : Counted corners last y total) where
+    pub counted-more : y ≤ last / side → (s : Stretch) → StretchOf (map unpacked corners) y s → Counted corners last (y + 1) (total + (s .to - s .from))
+    counted-more u s f =
+        let e : s .from + (s .to - s .from) ≡ s .to = omega (arith, f .rising) in
+        let r = columns-listed (s .from) (s .to - s .from) y in
+        record {
+          between = between-next corners [] alone some last g y (d .between) u;
+          count = (
+            d .count .0 ++ r .0,
+            upto-more (Lacking corners []) y (Gap [] s y) (gap-lacking corners [] alone y 0 0 s f (none-held y)) (lacking-gap corners [] alone y 0 0 s f (none-held y))
+                (d .count .0) (r .0) (d .count .1) (subst (λ n. Lists (Gap [] (record { from = s .from; to = n }) y) (r .0)) e (r .1)),
+            omega (arith, d .count .2, r .2, length-append (d .count .0) (r .0)),
+          );
+          small = omega (arith, d .small, f .few);
+        }
+
+    pub counted-all : last / side < y → CountOf (HullOf corners) total
+    counted-all u = (
+      d .count .0,
+      lists-same (Lacking corners []) (HullOf corners) (λ p l. l .within) (λ p i. record { within = i; kept = λ m. m }) (d .count .0)
+          (all-passed corners [] alone some last g y (d .between) u (d .count .0) (d .count .1)),
+      d .count .2,
+    )
+
+-- ---- written
+-- the rest of a room from place n on, lent on and given back
+module _ (room : List ℤ) (n : ℕ) where
+  pub rest-lent : take (length room - n) (drop n room) ≡ drop n room
+  rest-lent = take-all (length room - n) (drop n room) (omega (arith, length-drop n room))
+
+  pub rest-back : (rest : List ℤ) → putMid n (length room - n) room rest ≡ take n room ++ rest
+  rest-back rest =
+      ap (λ m. take n room ++ (rest ++ m)) (drop-of-length-le (drop n room) {i = length room - n} (omega (arith, length-drop n room)))
+      ∙ ap (λ m. take n room ++ m) (append-nil rest)
+
+pub record Written (corners : List ℕ) (list : List ℤ) (last y begin used : ℕ) (room₀ room : List ℤ) : Type 0 where
+  pub between : Between corners last y
+  pub leads : LeadsTo (points list) (placed y) begin
+  pub puts : Puts (Upto (Lacking corners list) y) room₀ used room
+
+module _ (corners : List ℕ) (list : List ℤ) (w : Walked corners list) (some : 0 < length corners) (last : ℕ) (g : Greatest corners last) where
+  -- no point of the list is in a row before the first
+  pub leads-none : LeadsTo (points list) (placed (getD corners 0 0 / side)) 0
+  leads-none = record {
+    upto = omega arith;
+    before = λ i u. nowhere i u;
+    stops = λ u. in-rows corners (w .cornered) some last g (point (points list) 0) (all-place (HullOf corners) (points list) (w .inside) 0 u) .0;
+  }
+
+  pub written-none : (room : List ℤ) → Written corners list last (getD corners 0 0 / side) 0 0 room room
+  written-none room = record {
+    between = between-first corners list w some last g;
+    leads = leads-none;
+    puts = ([], none-yet corners list w some last g, refl, refl);
+  }
+
+  module _ (room₀ : List ℤ) (t : Takes (Lacking corners list) room₀) (y begin used : ℕ) (room : List ℤ) (d : Written corners list last y begin used room₀ room) where
+    pub written-length : length room ≡ length room₀
+    written-length =
+        ap length (d .puts .3)
+        ∙ holding-length (d .puts .0) room₀ (omega (
+          arith,
+          lists-fewer (Upto (Lacking corners list) y) (Lacking corners list) (λ p u. u .0) (d .puts .0) (t .0) (d .puts .1) (t .1),
+          t .2,
+        ))
+
+    pub written-used : 2 * used ≤ length room
+    written-used = omega (
+      arith,
+      lists-fewer (Upto (Lacking corners list) y) (Lacking corners list) (λ p u. u .0) (d .puts .0) (t .0) (d .puts .1) (t .1),
+      t .2,
+      d .puts .2,
+      written-length,
+    )
+
+    module _ (u : y ≤ last / side) (s : Stretch) (f : StretchOf (map unpacked corners) y s) (end : ℕ) (k : Holds (points list) (placed y) begin end) where
+      more : (m : List Point) → Lists (Gap (part list begin end) s y) m → Lists (Upto (Lacking corners list) (y + 1)) (d .puts .0 ++ m)
+      more m l =
+          upto-more (Lacking corners list) y (Gap (part list begin end) s y) (gap-lacking corners list w y begin end s f k)
+          (lacking-gap corners list w y begin end s f k) (d .puts .0) m (d .puts .1) l
+
+      -- the rest of the room has place for the row's
+      pub written-room : Takes (Gap (part list begin end) s y) (take (length room - 2 * used) (drop (2 * used) room))
+      written-room =
+          let m = gaps-exist corners list w y begin end s f k in
+          subst (Takes (Gap (part list begin end) s y)) (sym (rest-lent room (2 * used))) (
+            m .0,
+            m .1,
+            omega (
+              arith,
+              lists-fewer (Upto (Lacking corners list) (y + 1)) (Lacking corners list) (λ p u. u .0) (d .puts .0 ++ m .0) (t .0) (more (m .0) (m .1)) (t .1),
+              length-append (d .puts .0) (m .0),
+              t .2,
+              d .puts .2,
+              length-drop (2 * used) room,
+              written-length,
+            ),
+          )
+
+      pub written-more : (r : ℕ) (rest : List ℤ) → Puts (Gap (part list begin end) s y) (take (length room - 2 * used) (drop (2 * used) room)) r rest
+          → Written corners list last (y + 1) end (used + r) room₀ (putMid (2 * used) (length room - 2 * used) room rest)
+      written-more r rest p = record {
+        between = between-next corners list w some last g y (d .between) u;
+        leads = holds-leads (points list) y begin end k;
+        puts = (
+          d .puts .0 ++ p .0,
+          more (p .0) (p .1),
+          omega (arith, d .puts .2, p .2, length-append (d .puts .0) (p .0)),
+          rest-back room (2 * used) rest
+              ∙ ap (λ m. take (2 * used) room ++ m) (p .3 ∙ ap (holding (p .0)) (rest-lent room (2 * used)))
+              ∙ ap (λ m. take (2 * used) m ++ holding (p .0) (drop (2 * used) m)) (d .puts .3)
+              ∙ holding-then (d .puts .0) used (sym (d .puts .2)) room₀ (p .0),
+        );
+      }
+
+    pub written-all : last / side < y → Puts (Lacking corners list) room₀ used room
+    written-all u = (d .puts .0, all-passed corners list w some last g y (d .between) u (d .puts .0) (d .puts .1), d .puts .2, d .puts .3)
+
+-- ---- looked for
+-- nothing is lacking in the rows before y
+pub record Searched (corners : List ℕ) (list : List ℤ) (last y begin : ℕ) : Type 0 where
+  pub between : Between corners last y
+  pub leads : LeadsTo (points list) (placed y) begin
+  pub none : (p : Point) → Upto (Lacking corners list) y p → ⊥
+
+-- nor in the columns of row y before x
+pub record Searching (row : List ℤ) (s : Stretch) (y x : ℕ) : Type 0 where
+  pub from : s .from ≤ x
+  pub to : x ≤ s .to
+  pub passed : Passed row x (x - s .from)
+  pub full : (n : ℕ) → s .from ≤ n → n < x → In (cell n y) (points row)
+
+module _ (corners : List ℕ) (list : List ℤ) (w : Walked corners list) (some : 0 < length corners) (last : ℕ) (g : Greatest corners last) where
+  pub searched-none : Searched corners list last (getD corners 0 0 / side) 0
+  searched-none = record {
+    between = between-first corners list w some last g;
+    leads = leads-none corners list w some last g;
+    none = none-yet corners list w some last g .every;
+  }
+
+  module _ (y begin : ℕ) (d : Searched corners list last y begin) where
+    pub searched-all : last / side < y → FirstOf (Lacking corners list) cells
+    searched-all u = record {
+      upto = omega arith;
+      here = λ l. absurd (omega arith);
+      earlier = λ k l h. d .none (unpacked k) (h, before-past corners list w some last g y (d .between) u (unpacked k) h);
+    }
+
+    module _ (u : y ≤ last / side) (s : Stretch) (f : StretchOf (map unpacked corners) y s) (end : ℕ) (k : Holds (points list) (placed y) begin end) where
+      abbrev rowOf : List ℤ
+      rowOf = part list begin end
+
+      pub searching-none : Searching rowOf s y (s .from)
+      searching-none = let e : s .from - s .from ≡ 0 = omega arith in record {
+        from = omega arith;
+        to = f .rising;
+        passed = subst (Passed rowOf (s .from)) (sym e) (passed-none rowOf s y (row-is corners list w y begin end s f k));
+        full = λ n l m. absurd (omega arith);
+      }
+
+      module _ (x : ℕ) (h : Searching rowOf s y x) where
+        pub searching-more : x < s .to → Held rowOf (x - s .from) x → Searching rowOf s y (x + 1)
+        searching-more l e = let c : x - s .from + 1 ≡ x + 1 - s .from = omega (arith, h .from) in record {
+          from = omega (arith, h .from);
+          to = omega arith;
+          passed = subst (Passed rowOf (x + 1)) c (passed-held rowOf s y (row-is corners list w y begin end s f k) x (x - s .from) (h .passed) e);
+          full = λ n a b. either (lt-or-le n x) (λ m. h .full n a m)
+              (λ m. let c : x ≡ n = omega arith in
+              subst (λ z. In (cell z y) (points rowOf)) c (held-in rowOf s y (row-is corners list w y begin end s f k) (x - s .from) x e));
+        }
+
+        -- no point before column x of row y is lacking
+        none-before : (p : Point) → Lacking corners list p → p .y ≡ placed y → (n : ℕ) → p ≡ cell n y → n < x → ⊥
+        none-before p l e n q m =
+            let a = lacking-gap corners list w y begin end s f k p l e in
+            a .lacks (subst (λ z. In z (points rowOf)) (sym q) (h .full n (from-stretch a n q) m))
+          where
+            from-stretch : (a : Gap rowOf s y p) (n : ℕ) → p ≡ cell n y → s .from ≤ n
+            from-stretch a n q =
+                let c : a .column ≡ n = placed-injective (a .column) n (ap (λ z. z .x) (sym (a .here) ∙ q)) in
+                omega (arith, c, a .within .from)
+
+        pub searching-found : x < s .to → (Held rowOf (x - s .from) x → ⊥) → FirstOf (Lacking corners list) (side * y + x)
+        searching-found l n = record {
+          upto = omega (arith, l, f .few, u, last-row corners (w .cornered) some last g);
+          here = λ _. subst (Lacking corners list) (sym (at-cell x y (omega (arith, l, f .few))))
+              (gap-lacking corners list w y begin end s f k (cell x y) (record {
+                column = x;
+                within = record { from = h .from; to = l };
+                here = refl;
+                lacks = gap-here rowOf s y (row-is corners list w y begin end s f k) x (x - s .from) (h .passed) n;
+              }) .0);
+          earlier = λ i a b. either (lt-or-le (i / side) y) (λ m. d .none (unpacked i) (b, placed-order (i / side) y m))
+              (λ m. let e : i / side ≡ y = omega (arith, a, l, f .few) in
+              none-before (unpacked i) b (ap placed e) (i % side) (ap (λ z. record { x = placed (i % side); y = placed z }) e) (omega (arith, a, e)));
+        }
+
+        pub searching-all : s .to ≤ x → Searched corners list last (y + 1) end
+        searching-all l = record {
+          between = between-next corners list w some last g y (d .between) u;
+          leads = holds-leads (points list) y begin end k;
+          none = λ p a. either (row-next y (p .y) (a .1)) (λ b. d .none p (a .0, b))
+              (λ b. let q = lacking-gap corners list w y begin end s f k p (a .0) b in
+              none-before p (a .0) b (q .column) (q .here) (omega (arith, q .within .to)));
+        }

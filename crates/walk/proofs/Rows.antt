@@ -1,0 +1,176 @@
+-- The last corner, and the points of a row as a part from the middle of a list in row order. Assumes nothing.
+use mathlib.Core.Path.{_≡_, refl, sym, _∙_, ap, subst, subst₂}
+use mathlib.Core.Logic.{_⊎_, inl, inr}
+use mathlib.Core.List.{List, [], _∷_}
+use Prim.Native.Nat.{ℕ, _+_, _-_, _*_, _≤_, _<_}
+use native.Mathlib.Omega.{arith}
+use borrow.Author.Count.{below-more}
+use lib.Dec.{eqb}
+use lib.ListN.{length, getD, take, drop, length-drop}
+use lib.Seq.{length-take-le, getD-take, getD-drop}
+use lib.IntN.{ℤ, pos, _+ℤ_}
+use lib.Signed.{_≤ℤ_, _<ℤ_}
+use mir.Syntax.{w32}
+use mir.Val.{SFits, ofZ}
+use Rattle.whole.proofs.Whole.{ring, quote, _≤ᶻ_, gap≤, gap<, _⊞_, _⋆≡_, linear≤, linear<, linear⊥, le-or-lt, antisymmetric, le-of-lt, le-of-equal}
+use Rattle.lattice.specs.Point.{Point, origin, InRange, points, point, In, Pairs, Before, row, column}
+use Rattle.lattice.specs.Hull.{InHull, Of}
+use Rattle.lattice.proofs.Lists.{either}
+use Rattle.lattice.proofs.HalfPlane.{point-equal}
+use Rattle.lattice.proofs.Places.{lt-or-le, place-in, in-place, pairs-place}
+use Rattle.lattice.proofs.Numbers.{points-at, points-drop, points-take}
+use Rattle.packed.specs.Packed.{Tells, moved, placed}
+use Rattle.packed.proofs.Border.{moved-small}
+use Rattle.packed.proofs.Reading.{column-at}
+use Rattle.packed.proofs.Tests.{tells-equal, tells-as}
+use Rattle.packed.proofs.RowOrder.{placed-moved, order-placed}
+use Rattle.order.specs.Row.{Holds, LeadsTo}
+use Rattle.stretch.specs.Stretch.{cell, StretchOf}
+use Rattle.stretch.specs.declared.Stretch.{Stretch}
+use Rattle.walk.specs.Walk.{Greatest, columnAt, RowPoints}
+
+-- ---- the last corner in row order
+-- the greatest of the first i corners
+pub record Greater (corners : List ℕ) (last i : ℕ) : Type 0 where
+  pub upto : i ≤ length corners
+  pub greatest : (j : ℕ) → j < i → getD corners j 0 ≤ last
+  pub held : (j : ℕ) × (j < length corners) × (getD corners j 0 ≡ last)
+
+module _ (corners : List ℕ) where
+  pub greater-one : 0 < length corners → Greater corners (getD corners 0 0) 1
+  greater-one h = record {
+    upto = omega arith;
+    greatest = λ j l. let e : j ≡ 0 = omega arith in omega (arith, ap (λ n. getD corners n 0) e);
+    held = (0, h, refl);
+  }
+
+  module _ (last i : ℕ) (h : Greater corners last i) where
+    pub greater-more : i < length corners → (r : ℕ) → (last ≤ r) × (getD corners i 0 ≤ r) × ((r ≡ last) ⊎ (r ≡ getD corners i 0)) → Greater corners r (i + 1)
+    greater-more l r g = record {
+      upto = omega arith;
+      greatest = below-more (λ j. getD corners j 0 ≤ r) i (λ j u. omega (arith, h .greatest j u, g .0)) (g .1);
+      held = either (g .2) (λ e. (h .held .0, h .held .1, h .held .2 ∙ sym e)) (λ e. (i, l, sym e));
+    }
+
+    pub greater-all : length corners ≤ i → Greatest corners last
+    greater-all l = record { greatest = λ j u. h .greatest j (omega arith); held = h .held }
+
+-- ---- the point at a place is in a column, as the machine tests it
+pub tells-held : (list : List ℤ) (i : ℕ) (x : ℤ) → i < length (points list) → SFits w32 (column-at list i) → SFits w32 x
+    → Tells (eqb (ofZ w32 (column-at list i)) (ofZ w32 x)) ((i < length (points list)) × ((point (points list) i) .x ≡ x))
+tells-held list i x l f g =
+    let e : (point (points list) i) .x ≡ column-at list i = ap (λ p. p .x) (points-at list i l) in
+    tells-as (eqb (ofZ w32 (column-at list i)) (ofZ w32 x)) {P = column-at list i ≡ x} {Q = (i < length (points list)) × ((point (points list) i) .x ≡ x)}
+    (λ h. (l, e ∙ h)) (λ h. sym e ∙ h .1) (tells-equal (column-at list i) x f g)
+
+-- ---- rows one after the other
+placed-next : (y : ℕ) → placed (y + 1) ≡ placed y +ℤ pos 1
+placed-next y = ring (pos y ∷ []) (search quote depth 20) tt
+
+-- before row y + 1 is before row y, or in it
+pub row-next : (y : ℕ) (z : ℤ) → z <ℤ placed (y + 1) → (z <ℤ placed y) ⊎ (z ≡ placed y)
+row-next y z h =
+    let g : z ≤ᶻ placed y = linear≤ (z ∷ placed y ∷ []) (gap< (subst (λ w. z <ℤ w) (placed-next y) h)) (search quote depth 20) tt in
+    either (le-or-lt (placed y) z) (λ k. inr (antisymmetric g k)) (λ k. inl k)
+
+pub next-row : (y : ℕ) (z : ℤ) → z ≤ℤ placed y → z <ℤ placed (y + 1)
+next-row y z h = subst (λ w. z <ℤ w) (sym (placed-next y)) (linear< (z ∷ placed y ∷ []) (gap≤ h) (search quote depth 20) tt)
+
+pub from-next : (y : ℕ) (z : ℤ) → placed y <ℤ z → placed (y + 1) ≤ℤ z
+from-next y z h = subst (λ w. w ≤ℤ z) (sym (placed-next y)) (linear≤ (z ∷ placed y ∷ []) (gap< h) (search quote depth 20) tt)
+
+pub holds-leads : (l : List Point) (y begin end : ℕ) → Holds l (placed y) begin end → LeadsTo l (placed (y + 1)) end
+holds-leads l y begin end h = record {
+  upto = h .inside;
+  before = λ i u. next-row y ((point l i) .y)
+      (either (lt-or-le i begin) (λ v. le-of-lt (h .before i v)) (λ v. le-of-equal (h .within i v u)));
+  stops = λ u. from-next y ((point l end) .y) (h .after end (omega arith) u);
+}
+
+-- ---- the part of a list that holds the points of a row
+module _ (list : List ℤ) (begin end : ℕ) where
+  abbrev pub part : List ℤ
+  part = take (2 * end - 2 * begin) (drop (2 * begin) list)
+
+  part-points : points part ≡ take (end - begin) (drop begin (points list))
+  part-points =
+      let e : 2 * end - 2 * begin ≡ 2 * (end - begin) = omega arith in
+      ap (λ n. points (take n (drop (2 * begin) list))) e
+      ∙ points-take (end - begin) (drop (2 * begin) list)
+      ∙ ap (take (end - begin)) (points-drop begin list)
+
+  module _ (y : ℤ) (h : Holds (points list) y begin end) where
+    pub part-length : length (points part) ≡ end - begin
+    part-length =
+        ap length part-points
+        ∙ length-take-le (end - begin) (drop begin (points list)) (omega (arith, h .rising, h .inside, length-drop begin (points list)))
+
+    pub part-at : (i : ℕ) → i < end - begin → point (points part) i ≡ point (points list) (begin + i)
+    part-at i l =
+        ap (λ m. point m i) part-points
+        ∙ getD-take (end - begin) (drop begin (points list)) i origin l
+        ∙ getD-drop begin (points list) i origin
+
+    pub part-in : (p : Point) → In p (points part) → In p (points list) × (p .y ≡ y)
+    part-in p m =
+        let r = in-place (points part) p m in
+        let l : r .0 < end - begin = omega (arith, r .1, part-length) in
+        let e = r .2 ∙ part-at (r .0) l in (
+          subst (λ q. In q (points list)) (sym e) (place-in (points list) (begin + r .0) (omega (arith, l, h .inside))),
+          ap (λ q. q .y) e ∙ h .within (begin + r .0) (omega arith) (omega (arith, l)),
+        )
+
+    pub in-part : (p : Point) → In p (points list) → p .y ≡ y → In p (points part)
+    in-part p m e =
+        let r = in-place (points list) p m in
+        let f : (point (points list) (r .0)) .y ≡ y = ap (λ q. q .y) (sym (r .2)) ∙ e in
+        let u : begin ≤ r .0 = either (lt-or-le (r .0) begin) (λ k. absurd (never (h .before (r .0) k) f)) (λ k. k) in
+        let v : r .0 < end = either (lt-or-le (r .0) end) (λ k. k) (λ k. absurd (never (h .after (r .0) k (r .1)) (sym f))) in
+        let d : begin + (r .0 - begin) ≡ r .0 = omega (arith, u) in
+        subst (λ q. In q (points part)) (part-at (r .0 - begin) (omega (arith, u, v)) ∙ ap (point (points list)) d ∙ sym (r .2))
+        (place-in (points part) (r .0 - begin) (omega (arith, u, v, part-length)))
+      where
+        never : {a b : ℤ} → a <ℤ b → a ≡ b → ⊥
+        never {a} {b} k e = linear⊥ (a ∷ b ∷ []) (gap< k ⊞ pos 1 ⋆≡ sym e) (search quote depth 20) tt
+
+-- a point of the range that is in row y stands in one of its cells
+pub in-cell : (p : Point) (y : ℕ) → InRange p → p .y ≡ placed y → p ≡ cell (moved (p .x)) y
+in-cell p y r e = point-equal (sym (placed-moved (p .x) (r .x-from))) e
+
+-- in one row the earlier point is in a smaller column
+before-column : (p q : Point) → p .y ≡ q .y → Before p q → p .x <ℤ q .x
+before-column p q e (row h) = linear⊥ (p .y ∷ q .y ∷ []) (gap< h ⊞ pos 1 ⋆≡ sym e) (search quote depth 20) tt
+before-column p q e (column f h) = h
+
+-- the points of a row, all in the stretch
+pub row-points : (c : List Point) (list : List ℤ) (y begin end : ℕ) (s : Stretch) → Holds (points list) (placed y) begin end → StretchOf c y s
+    → Pairs Before (points list) → ((p : Point) → In p (points list) → InHull (Of c) p) → ((p : Point) → In p (points list) → InRange p)
+    → RowPoints (part list begin end) s y
+row-points c list y begin end s h f order inside range = record {
+  rising = f .rising;
+  few = f .few;
+  here = λ i l. in-cell (at i) y (range (at i) (held i l)) (in-row i l);
+  within = λ i l. f .all (columnAt (part list begin end) i) (moved-small ((at i) .x) (range (at i) (held i l) .x-from) (range (at i) (held i l) .x-to))
+      (subst (InHull (Of c)) (in-cell (at i) y (range (at i) (held i l)) (in-row i l)) (inside (at i) (held i l)));
+  rises = λ i j u v. order-placed (columnAt (part list begin end) i) (columnAt (part list begin end) j)
+      (subst₂ _<ℤ_ (sym (placed-moved ((at i) .x) (range (at i) (held i (omega arith)) .x-from))) (sym (placed-moved ((at j) .x) (range (at j) (held j v) .x-from)))
+      (before-column (at i) (at j) (in-row i (omega arith) ∙ sym (in-row j v)) (later i j u v)));
+}
+  where
+    at : ℕ → Point
+    at i = point (points (part list begin end)) i
+
+    member : (i : ℕ) → i < length (points (part list begin end)) → In (at i) (points list) × ((at i) .y ≡ placed y)
+    member i l = part-in list begin end (placed y) h (at i) (place-in (points (part list begin end)) i l)
+
+    held : (i : ℕ) → i < length (points (part list begin end)) → In (at i) (points list)
+    held i l = member i l .0
+
+    in-row : (i : ℕ) → i < length (points (part list begin end)) → (at i) .y ≡ placed y
+    in-row i l = member i l .1
+
+    later : (i j : ℕ) → i < j → j < length (points (part list begin end)) → Before (at i) (at j)
+    later i j u v =
+        let n = part-length list begin end (placed y) h in
+        subst₂ Before (sym (part-at list begin end (placed y) h i (omega (arith, u, v, n)))) (sym (part-at list begin end (placed y) h j (omega (arith, v, n))))
+        (pairs-place Before (points list) order (begin + i) (begin + j) (omega arith) (omega (arith, v, n, h .inside)))

@@ -1,0 +1,74 @@
+-- The lattice points of a hull that a list in row order lacks: counted, the first of them, all of them. Report lacks the points of the
+-- grain, Rebuild the missing points. Assumes nothing.
+use mathlib.Core.Path.{_≡_}
+use mathlib.Core.List.{List, map}
+use Prim.Native.Nat.{ℕ, _*_, _≤_, _<_}
+use lib.ListN.{length, getD}
+use lib.IntN.{ℤ}
+use Rattle.lattice.specs.Point.{Point, points, point, In, All, Pairs, Before, Lists}
+use Rattle.lattice.specs.Hull.{InHull, Of, CornerList, Kept}
+use Rattle.lattice.specs.Room.{holding}
+use Rattle.packed.specs.Packed.{side, cells, moved, unpacked}
+use Rattle.stretch.specs.Stretch.{cell, Within}
+use Rattle.stretch.specs.declared.Stretch.{Stretch}
+
+-- p is in the hull of packed corners
+abbrev pub HullOf : List ℕ → Point → Type 0
+HullOf corners = InHull (Of (map unpacked corners))
+
+-- a corner list of packed points
+pub record Cornered (corners : List ℕ) : Type 0 where
+  pub below : (i : ℕ) → i < length corners → getD corners i 0 < cells
+  pub listed : CornerList (map unpacked corners) (map unpacked corners)
+
+-- a corner list, and points of its hull in row order
+pub record Walked (corners : List ℕ) (list : List ℤ) : Type 0 where
+  pub cornered : Cornered corners
+  pub order : Pairs Before (points list)
+  pub inside : All (HullOf corners) (points list)
+
+-- the lattice points of the hull that the list lacks
+abbrev pub Lacking : List ℕ → List ℤ → Point → Type 0
+Lacking corners list = Kept (map unpacked corners) (points list)
+
+-- as many points have P
+abbrev pub CountOf : (Point → Type 0) → ℕ → Type 0
+CountOf P r = (l : List Point) × Lists P l × (r ≡ length l)
+
+-- the least packed point that has P; `cells` if none has it
+pub record FirstOf (P : Point → Type 0) (r : ℕ) : Type 0 where
+  pub upto : r ≤ cells
+  pub here : r < cells → P (unpacked r)
+  pub earlier : (k : ℕ) → k < r → P (unpacked k) → ⊥
+
+-- a room with place for all points that have P; such a room with them at its front, and how many they are
+abbrev pub Takes : (Point → Type 0) → List ℤ → Type 0
+Takes P room = (l : List Point) × Lists P l × (2 * length l ≤ length room)
+
+abbrev pub Puts : (Point → Type 0) → List ℤ → ℕ → List ℤ → Type 0
+Puts P room r room′ = (l : List Point) × Lists P l × (r ≡ length l) × (room′ ≡ holding l room)
+
+-- ---- one row
+-- the last corner in row order
+pub record Greatest (corners : List ℕ) (r : ℕ) : Type 0 where
+  pub greatest : (i : ℕ) → i < length corners → getD corners i 0 ≤ r
+  pub held : (i : ℕ) × (i < length corners) × (getD corners i 0 ≡ r)
+
+-- the column of a point of a list, moved to start at 0
+abbrev pub columnAt : List ℤ → ℕ → ℕ
+columnAt list i = moved ((point (points list) i) .x)
+
+-- the points of row y, in row order, and a stretch that has them all
+pub record RowPoints (row : List ℤ) (s : Stretch) (y : ℕ) : Type 0 where
+  pub rising : s .from ≤ s .to
+  pub few : s .to ≤ side
+  pub here : (i : ℕ) → i < length (points row) → point (points row) i ≡ cell (columnAt row i) y
+  pub within : (i : ℕ) → i < length (points row) → Within s (columnAt row i)
+  pub rises : (i j : ℕ) → i < j → j < length (points row) → columnAt row i < columnAt row j
+
+-- p is in row y and in the stretch, and no point of the row
+pub record Gap (row : List ℤ) (s : Stretch) (y : ℕ) (p : Point) : Type 0 where
+  pub column : ℕ
+  pub within : Within s column
+  pub here : p ≡ cell column y
+  pub lacks : In p (points row) → ⊥

@@ -1,0 +1,142 @@
+// The lattice points of a hull that a list in row order lacks, row by row: how many the hull has, the first that is lacking, all of them.
+ghost use mathlib.Core.Path.{_≡_};
+ghost use mathlib.Core.Logic.{_⊎_};
+ghost use Prim.Native.Nat.{_<_, _≤_};
+ghost use lib.ListN.{length};
+ghost use Rattle.lattice.specs.Point.{points, point};
+ghost use Rattle.packed.specs.Packed.{Tells, side};
+ghost use Rattle.walk.specs.Walk.{HullOf, Cornered, Walked, Lacking, CountOf, FirstOf, Takes, Puts, Greatest, RowPoints, Gap};
+use stretch::Stretch;
+
+const SIDE: u32 = 16384;
+
+// One more than the last packed point: no point is lacking.
+pub const NONE: u32 = 268435456;
+
+// The later of two packed points, and the last of the corners, in row order.
+fn later(a: u32, b: u32) -> u32
+    ensures { λ r. ⌜ (a ≤ r) × (b ≤ r) × ((r ≡ a) ⊎ (r ≡ b)) ⌝ }
+{
+    if a < b {
+        return b;
+    }
+    a
+}
+
+fn greatest(corners: &[u32]) -> u32
+    requires { ⌜ 0 < length (now corners) ⌝ }
+    ensures { λ r. ⌜ Greatest (now (corners .entry)) r ⌝ }
+{
+    let mut last = corners[0];
+    let mut i: usize = 1;
+    while i < corners.len() {
+        last = later(last, corners[i]);
+        i += 1;
+    }
+    last
+}
+
+// Whether a row has an i-th point, and this is in column x.
+fn holds(row: &[i32], i: usize, x: i32) -> bool
+    ensures { λ r. ⌜ Tells r ((i < length (points (now (row .entry)))) × ((point (points (now (row .entry))) i) .x ≡ x)) ⌝ }
+{
+    if row.len() / 2 <= i {
+        return false;
+    }
+    row[2 * i] == x
+}
+
+// How many lattice points the hull has.
+pub fn count(corners: &[u32]) -> u64
+    requires { ⌜ Cornered (now corners) ⌝ }
+    ensures { λ r. ⌜ CountOf (HullOf (now (corners .entry))) r ⌝ }
+{
+    if corners.len() == 0 {
+        return 0;
+    }
+    let last = greatest(corners);
+    let mut total: u64 = 0;
+    let mut y = corners[0] / SIDE;
+    while y <= last / SIDE {
+        let stretch = stretch::of_row(corners, last, y);
+        total += (stretch.to - stretch.from) as u64;
+        y += 1;
+    }
+    total
+}
+
+// The first lattice point of the hull that the list lacks: rows and columns are gone through, and both are left as soon as there is one.
+pub fn first(corners: &[u32], list: &[i32]) -> u32
+    requires { ⌜ Walked (now corners) (now list) ⌝ }
+    ensures { λ r. ⌜ FirstOf (Lacking (now (corners .entry)) (now (list .entry))) r ⌝ }
+{
+    if corners.len() == 0 {
+        return NONE;
+    }
+    let last = greatest(corners);
+    let mut begin: usize = 0;
+    let mut y = corners[0] / SIDE;
+    'rows: loop {
+        if last / SIDE < y {
+            break 'rows NONE;
+        }
+        let stretch = stretch::of_row(corners, last, y);
+        let end = order::run(list, packed::placed(y), begin);
+        let row = &list[2 * begin..2 * end];
+        let mut x = stretch.from;
+        while x < stretch.to {
+            if holds(row, (x - stretch.from) as usize, packed::placed(x)) {
+                x += 1;
+            } else {
+                break 'rows SIDE * y + x;
+            }
+        }
+        begin = end;
+        y += 1;
+    }
+}
+
+// The lattice points of a row's stretch that are no points of the row, at the front of the room; how many there are.
+fn write_row(row: &[i32], stretch: Stretch, y: u32, room: &mut [i32]) -> usize
+    requires { ⌜ RowPoints (now row) stretch y × (y < side) × Takes (Gap (now row) stretch y) (now room) ⌝ }
+    ensures { λ r. ⌜ Puts (Gap (now (row .entry)) stretch y) (now (room .entry)) r (now (room .exit)) ⌝ }
+{
+    let mut i: usize = 0;
+    let mut used: usize = 0;
+    let mut x = stretch.from;
+    while x < stretch.to {
+        let column = packed::placed(x);
+        if holds(row, i, column) {
+            i += 1;
+            x += 1;
+        } else {
+            room[2 * used] = column;
+            room[2 * used + 1] = packed::placed(y);
+            used += 1;
+            x += 1;
+        }
+    }
+    used
+}
+
+// All lattice points of the hull that the list lacks, at the front of the room; how many there are.
+pub fn write(corners: &[u32], list: &[i32], room: &mut [i32]) -> usize
+    requires { ⌜ Walked (now corners) (now list) × Takes (Lacking (now corners) (now list)) (now room) ⌝ }
+    ensures { λ r. ⌜ Puts (Lacking (now (corners .entry)) (now (list .entry))) (now (room .entry)) r (now (room .exit)) ⌝ }
+{
+    if corners.len() == 0 {
+        return 0;
+    }
+    let last = greatest(corners);
+    let mut used: usize = 0;
+    let mut begin: usize = 0;
+    let mut y = corners[0] / SIDE;
+    while y <= last / SIDE {
+        let stretch = stretch::of_row(corners, last, y);
+        let end = order::run(list, packed::placed(y), begin);
+        used += write_row(&list[2 * begin..2 * end], stretch, y, &mut room[2 * used..]);
+        begin = end;
+        y += 1;
+    }
+    used
+}
