@@ -21,7 +21,7 @@ use Rattle.rebuild.proofs.Rebuilding.{missing-fewer, too-many, room-sma
 
 
 count-requires : tie.Need-count-requires
-count-requires c κs = (c .before .pre .cornered, ?)
+count-requires c κs = c .before .pre .cornered
 
 -- the corners and the missing points, and all lattice points of the hull
 abbrev corners-of : tie.After-count → List Point
@@ -65,11 +65,11 @@ returns-2 c = let k = c .before .before .before in
 
 write-requires : tie.Need-write-requires
 write-requires c κs = let k = c .before .before .before in
-    let a = k .before .before in ((
+    let a = k .before .before in (
       a .pre,
-      room-takes (corners-of k) (points-of k) (a .pre .order) (a .pre .inside) (all-of k) (k .count .ensures .1) _
+      room-takes (corners-of k) (points-of k) (a .pre .order) (a .pre .inside) (all-of k) (k .count .ensures .1) (now (a .args .room))
           (omega (arith, result-length k, c .before .before .if1 .left)) (omega (arith, result-length k, c .before .if2 .left)),
-    ), ?)
+    )
 
 same-length : tie.Need-same-length
 same-length c = search needs
