@@ -1,12 +1,12 @@
 -- Which packed points are corners, which rows have no point of the hull, which points of a row are misplaced. Assumes nothing.
-use mathlib.Core.Path.{_≡_, refl, sym, _∙_, ap, subst}
+use mathlib.Core.Path.{_≡_, refl, sym, subst}
 use mathlib.Core.Logic.{inl, inr}
 use mathlib.Core.Bool.{Bool}
 use mathlib.Core.List.{List, [], _∷_, map}
-use Prim.Native.Nat.{ℕ, _+_, _-_, _*_, _/_, _%_, _≤_, _<_}
+use Prim.Native.Nat.{ℕ, _+_, _-_, _/_, _%_, _≤_, _<_}
 use native.Mathlib.Omega.{arith}
 use lib.ListN.{length, getD}
-use Rattle.lattice.specs.Point.{Point, InRange, point, In, Before}
+use Rattle.lattice.specs.Point.{Point, point, In, Before}
 use Rattle.lattice.specs.Hull.{InHull, member, segment, triangle, Of}
 use Rattle.lattice.specs.Refusal.{AtPoint, Misplaced}
 use Rattle.lattice.proofs.Lists.{either}
@@ -16,8 +16,8 @@ use Rattle.lattice.proofs.RowKey.{hull-after, hull-before}
 use Rattle.lattice.proofs.RowEnds.{inner-of-row-no-corner}
 use Rattle.lattice.proofs.Sandwich.{Spans, corner-list-of-spanned}
 use Rattle.lattice.proofs.CornerLists.{corner-list-shape}
-use Rattle.packed.specs.Packed.{Tells, side, cells, packed, unpacked}
-use Rattle.packed.proofs.RowOrder.{unpacked-injective, unpacked-packed}
+use Rattle.packed.specs.Packed.{Tells, side, unpacked}
+use Rattle.packed.proofs.RowOrder.{unpacked-injective}
 use Rattle.packed.proofs.KeyLaws.{unpacked-in, in-unpacked}
 use Rattle.packed.proofs.Tests.{tells-as}
 use Rattle.stretch.specs.Stretch.{cell, Within, Rowed, StretchOf}

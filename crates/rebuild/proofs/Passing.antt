@@ -1,10 +1,7 @@
 -- Laws of a loop that looks for the first place with a fault, and what the place it comes to tells. Assumes nothing.
-use mathlib.Core.List.{List}
 use Prim.Native.Nat.{ℕ, _+_, _≤_, _<_}
 use native.Mathlib.Omega.{arith}
 use borrow.Author.Count.{below-more}
-use lib.ListN.{length}
-use Rattle.lattice.specs.Point.{Point}
 use Rattle.lattice.specs.Refusal.{First}
 use Rattle.lattice.proofs.Places.{nowhere}
 use Rattle.rebuild.specs.Looking.{FirstBelow}

@@ -7,9 +7,9 @@ use native.Mathlib.Omega.{arith}
 use lib.ListN.{length, take}
 use lib.IntN.{ℤ}
 use Rattle.lattice.specs.Point.{Point, InRange, most, points, point, In, All, Pairs, Before, Lists}
-use Rattle.lattice.specs.Hull.{InHull, Of, CornerList, Kept}
+use Rattle.lattice.specs.Hull.{InHull, Of, Kept}
 use Rattle.lattice.specs.Refusal.{Table, accepted, Gives, Misplaced, rebuildRows}
-use Rattle.lattice.specs.Room.{holding, TooSmall}
+use Rattle.lattice.specs.Room.{holding}
 use Rattle.lattice.proofs.Lists.{either, all-in, all-map}
 use Rattle.lattice.proofs.Numbers.{points-length}
 use Rattle.lattice.proofs.Places.{lt-or-le, place-all}
@@ -21,10 +21,10 @@ use Rattle.lattice.proofs.RowLists.{lists-split}
 use Rattle.lattice.proofs.MissingLists.{kept-list-exists}
 use Rattle.lattice.proofs.Demand.{rebuild-accepts}
 use Rattle.packed.specs.Packed.{unpacked}
-use Rattle.walk.specs.Walk.{Cornered, Walked}
+use Rattle.walk.specs.Walk.{Walked}
 use Rattle.rebuild.specs.declared.Rebuilt.{Rebuilt}
-use Rattle.rebuild.specs.Rebuild.{inputRows, Results, resultRows, RebuildResult, Outcome, Looks, pointRows, Behind, rebuildTable, RebuildPromise}
-use Rattle.rebuild.specs.Looking.{Below, Taken, Outlines}
+use Rattle.rebuild.specs.Rebuild.{inputRows, Results, resultRows, RebuildResult, Outcome, pointRows, rebuildTable, RebuildPromise}
+use Rattle.rebuild.specs.Looking.{Taken, Behind, Looks, Below, Outlines}
 
 -- ---- rows that decline, rows that let pass
 module _ (t later : Table) (c m : List Point) (room : List ℤ) where

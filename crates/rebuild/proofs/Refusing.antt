@@ -11,8 +11,8 @@ use Rattle.lattice.specs.Hull.{CornerList}
 use Rattle.lattice.specs.Refusal.{Table, accepted, _when_else_, Gives, AtPoint, Strays, Odd, OutOfRange, Misplaced, rebuildRows}
 use Rattle.lattice.proofs.Tables.{whole-first, whole-never}
 use Rattle.rebuild.specs.declared.Rebuilt.{Rebuilt}
-use Rattle.rebuild.specs.Rebuild.{inputRows, Looks}
-use Rattle.rebuild.specs.Looking.{FirstBelow}
+use Rattle.rebuild.specs.Rebuild.{inputRows}
+use Rattle.rebuild.specs.Looking.{Looks, FirstBelow}
 use Rattle.rebuild.proofs.Passing.{first-here, never-below}
 
 -- a number and a place, and no points

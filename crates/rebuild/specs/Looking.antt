@@ -7,13 +7,25 @@ use lib.IntN.{ℤ, pos}
 use lib.Signed.{_<ℤ_}
 use Rattle.lattice.specs.Point.{Point, InRange, most, points, All, Before}
 use Rattle.lattice.specs.Hull.{turn}
+use Rattle.lattice.specs.Refusal.{Table, Gives}
 use Rattle.packed.specs.Packed.{cells, unpacked}
+use Rattle.rebuild.specs.declared.Rebuilt.{Rebuilt}
+use Rattle.rebuild.specs.Rebuild.{Outcome, pointRows}
 
 -- lists that pass refusals 1 to 3
 pub record Taken (corners missing : List ℤ) : Type 0 where
   pub few : length (points corners) ≤ most
   pub corners-range : All InRange (points corners)
   pub missing-range : All InRange (points missing)
+
+-- what comes of them
+abbrev pub Behind : List ℤ → List ℤ → List ℤ → Rebuilt → List ℤ → Type 0
+Behind corners missing room = Outcome (pointRows corners missing room) (points corners) (points missing) room
+
+-- what some rows of the table give, where nothing is counted yet
+pub record Looks (t : Table) (answer : Rebuilt) : Type 0 where
+  pub gives : Gives t (answer .number) (answer .place)
+  pub uncounted : answer .points ≡ 0
 
 -- the first place below n at which P holds; n if there is none
 pub record FirstBelow (n : ℕ) (P : ℕ → Type 0) (r : ℕ) : Type 0 where

@@ -41,19 +41,10 @@ pub record Outcome (t : Table) (c m : List Point) (room : List ℤ) (answer : Re
   pub gives : Gives t (answer .number) (answer .place)
   pub result : RebuildResult c m room (answer .number) (answer .points) after
 
--- what looking at some rows of the table tells, before anything is counted
-pub record Looks (t : Table) (answer : Rebuilt) : Type 0 where
-  pub gives : Gives t (answer .number) (answer .place)
-  pub uncounted : answer .points ≡ 0
-
 -- "8, 9, 10, 11, 12."
 abbrev pub pointRows : List ℤ → List ℤ → List ℤ → Table
 pointRows corners missing room =
     rebuildRows (points corners) (points missing) (resultRows (points corners) (points missing) room accepted)
-
--- what comes of lists that pass refusals 1 to 3
-abbrev pub Behind : List ℤ → List ℤ → List ℤ → Rebuilt → List ℤ → Type 0
-Behind corners missing room = Outcome (pointRows corners missing room) (points corners) (points missing) room
 
 -- "Rebuild: 1 (either list), 2, 3 for corners, 3 for missing points, 8, 9, 10, 11, 12."
 abbrev pub rebuildTable : List ℤ → List ℤ → List ℤ → Table

@@ -9,8 +9,8 @@ ghost use Rattle.lattice.specs.Refusal.{accepted, AtPoint, Strays, OutOfRange, 
 ghost use Rattle.packed.specs.Packed.{Tells, side, cells, packed as packedOf, unpacked};
 ghost use Rattle.stretch.specs.Stretch.{StretchOf};
 ghost use Rattle.walk.specs.Walk.{Cornered, Walked, Greatest};
-ghost use Rattle.rebuild.specs.Rebuild.{inputRows, resultRows, Outcome, Looks, Behind, RebuildPromise};
-ghost use Rattle.rebuild.specs.Looking.{Taken, FirstBelow, Below, Outlines, Follows};
+ghost use Rattle.rebuild.specs.Rebuild.{inputRows, resultRows, Outcome, RebuildPromise};
+ghost use Rattle.rebuild.specs.Looking.{Taken, Behind, Looks, FirstBelow, Below, Outlines, Follows};
 use stretch::Stretch;
 
 // What Rebuild answers: number and place, 0 and 0 if accepted, and how many points there are.
@@ -33,7 +33,7 @@ fn key_at(list: &[i32], i: usize) -> u32
 }
 
 // The first point that is out of range; how many points there are if none is.
-fn outside(list: &[i32]) -> usize
+fn first_outside(list: &[i32]) -> usize
     ensures { λ r. ⌜ FirstBelow (length (points (now (list .entry)))) (AtPoint OutOfRange (points (now (list .entry)))) r ⌝ }
 {
     let n = list.len() / 2;
@@ -173,7 +173,7 @@ fn is_misplaced(outline: &[u32], stretch: Stretch, k: u32) -> bool
 }
 
 // The first missing point that is misplaced; how many there are if none is. Each row's stretch is looked for once.
-fn first_misplaced(outline: &[u32], last: u32, missing: &[i32]) -> usize
+fn misplaced_by_rows(outline: &[u32], last: u32, missing: &[i32]) -> usize
     requires { ⌜ Cornered (now outline) × Greatest (now outline) last × All InRange (points (now missing)) ⌝ }
     ensures { λ r. ⌜ FirstBelow (length (points (now (missing .entry))))
         (AtPoint (Misplaced (map unpacked (now (outline .entry)))) (points (now (missing .entry)))) r ⌝ }
@@ -195,7 +195,7 @@ fn first_misplaced(outline: &[u32], last: u32, missing: &[i32]) -> usize
 }
 
 // The first missing point that is outside the corners' hull or is a corner; how many there are if none is.
-fn misplaced(outline: &[u32], missing: &[i32]) -> usize
+fn first_misplaced(outline: &[u32], missing: &[i32]) -> usize
     requires { ⌜ Cornered (now outline) × All InRange (points (now missing)) ⌝ }
     ensures { λ r. ⌜ FirstBelow (length (points (now (missing .entry))))
         (AtPoint (Misplaced (map unpacked (now (outline .entry)))) (points (now (missing .entry)))) r ⌝ }
@@ -203,7 +203,7 @@ fn misplaced(outline: &[u32], missing: &[i32]) -> usize
     if outline.len() == 0 {
         return 0;
     }
-    first_misplaced(outline, walk::greatest(outline), missing)
+    misplaced_by_rows(outline, walk::greatest(outline), missing)
 }
 
 fn declined(number: u32, place: usize) -> Rebuilt
@@ -230,11 +230,11 @@ fn refusal_of_lists(corners: &[i32], missing: &[i32]) -> Rebuilt
     if packed::MOST < n {
         return declined(2, 0);
     }
-    let corner = outside(corners);
+    let corner = first_outside(corners);
     if corner < n {
         return declined(3, corner);
     }
-    let point = outside(missing);
+    let point = first_outside(missing);
     if point < missing.len() / 2 {
         return declined(3, point);
     }
@@ -258,7 +258,7 @@ fn refusal_of_points(outline: &[u32], missing: &[i32]) -> Rebuilt
     if stray < n {
         return declined(9, stray);
     }
-    let point = misplaced(outline, missing);
+    let point = first_misplaced(outline, missing);
     if point < n {
         return declined(10, point);
     }
@@ -291,12 +291,7 @@ fn result(outline: &[u32], missing: &[i32], room: &mut [i32]) -> Rebuilt
 }
 
 // Rebuild of lists that pass refusals 1 to 3, in working space that is lent.
-fn rebuild_in(
-    corners: &[i32],
-    missing: &[i32],
-    room: &mut [i32],
-    outline: &mut [u32],
-) -> Rebuilt
+fn rebuild_in(corners: &[i32], missing: &[i32], room: &mut [i32], outline: &mut [u32]) -> Rebuilt
     requires { ⌜ Taken (now corners) (now missing) × (length (points (now corners)) ≤ length (now outline)) ⌝ }
     ensures { λ r. ⌜ Behind (now (corners .entry)) (now (missing .entry)) (now (room .entry)) r (now (room .exit)) ⌝ }
 {

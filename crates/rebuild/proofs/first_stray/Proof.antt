@@ -1,10 +1,6 @@
-use Rattle.rebuild.proofs.first_stray.Statement.{statement}
-use Rattle.rebuild.proofs.first_stray.Tie as tie
-use Rattle.rebuild.proofs.first_stray.Reads as reads
-use Rattle.rebuild.proofs.first_stray.Lts as lts
-use Rattle.rebuild.proofs.key_at.Reads as key-at-reads
+-- `rebuild::first_stray` meets its contract: a turn of the loop passes one point more. Assumes nothing.
 use Prim.Native.Nat.{ℕ, _<_, _+_, _-_}
-use mathlib.Core.Path.{_≡_, sym, subst}
+use mathlib.Core.Path.{sym, subst}
 use mathlib.Core.List.{List}
 use native.Mathlib.Omega.{arith}
 use denote.Ref.{now}
@@ -14,7 +10,8 @@ use Rattle.lattice.proofs.Numbers.{points-length}
 use Rattle.lattice.proofs.Places.{all-place}
 use Rattle.order.proofs.InOrder.{Rising, rising-none, rising-more}
 use Rattle.rebuild.proofs.Straying.{stray-stops, stray-ends}
-
+use Rattle.rebuild.proofs.first_stray.Statement.{statement}
+use Rattle.rebuild.proofs.first_stray.Tie as tie
 
 abbrev Inv-loop : tie.InvT-loop
 Inv-loop missing n least₀ i₀ least i = Rising (points missing) least i
@@ -37,7 +34,6 @@ inside c = omega (arith, points-length (now (c .before .before .args .missing)),
 
 in-range : (c : tie.In-loop Inv-loop μ-loop) → InRange (point (points-of c) (place c))
 in-range c = all-place InRange (points-of c) (c .before .before .pre) (place c) (inside c)
-
 
 key-at-requires : tie.Need-key-at-requires Inv-loop μ-loop
 key-at-requires c κs = (inside c, in-range c)

@@ -1,16 +1,13 @@
-use borrow.Author.Needs.{needs}
-use Rattle.rebuild.proofs.follows.Statement.{statement}
-use Rattle.rebuild.proofs.follows.Tie as tie
-use Rattle.rebuild.proofs.follows.Reads as reads
-use Rattle.rebuild.proofs.follows.Lts as lts
-use Rattle.packed.proofs.left.Reads as left-reads
-use Prim.Native.Nat.{ℕ, _<_}
+-- `rebuild::follows` meets its contract: each way out is one of the tests. Assumes nothing.
+use Prim.Native.Nat.{ℕ}
 use mathlib.Core.Path.{sym, _∙_}
 use mathlib.Core.List.{List}
 use native.Mathlib.Omega.{arith}
+use borrow.Author.Needs.{needs}
 use denote.Ref.{now}
 use Rattle.rebuild.proofs.Following.{not-behind, second-follows, third-follows, not-seen}
-
+use Rattle.rebuild.proofs.follows.Statement.{statement}
+use Rattle.rebuild.proofs.follows.Tie as tie
 
 shared-slice-read-first : tie.Need-shared-slice-read-first
 shared-slice-read-first c = search needs
@@ -27,7 +24,6 @@ outline-of c = now (c .before .before .before .args .outline)
 
 abbrev place : tie.After-shared-slice-known3 → ℕ
 place c = c .before .before .before .args .i
-
 
 returns : tie.Need-returns
 returns c = not-behind (outline-of (c .before)) (place (c .before)) (c .if1 .taken)

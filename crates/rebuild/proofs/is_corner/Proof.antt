@@ -1,7 +1,4 @@
-use Rattle.rebuild.proofs.is_corner.Statement.{statement}
-use Rattle.rebuild.proofs.is_corner.Tie as tie
-use Rattle.rebuild.proofs.is_corner.Reads as reads
-use Rattle.rebuild.proofs.is_corner.Lts as lts
+-- `rebuild::is_corner` meets its contract: a turn of the loop passes one corner more. Assumes nothing.
 use Prim.Native.Nat.{_-_}
 use mathlib.Core.Path.{_≡_}
 use native.Mathlib.Omega.{arith}
@@ -9,7 +6,8 @@ use denote.Ref.{now}
 use lib.ListN.{length, getD}
 use Rattle.rebuild.proofs.Passing.{Passing, passing-none, passing-more}
 use Rattle.rebuild.proofs.Misplacing.{corner-here, no-corner}
-
+use Rattle.rebuild.proofs.is_corner.Statement.{statement}
+use Rattle.rebuild.proofs.is_corner.Tie as tie
 
 abbrev Inv-loop : tie.InvT-loop
 Inv-loop outline k i₀ i = Passing (length outline) (λ j. getD outline j 0 ≡ k) i

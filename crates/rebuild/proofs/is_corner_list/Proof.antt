@@ -1,14 +1,11 @@
-use Rattle.rebuild.proofs.is_corner_list.Statement.{statement}
-use Rattle.rebuild.proofs.is_corner_list.Tie as tie
-use Rattle.rebuild.proofs.is_corner_list.Reads as reads
-use Rattle.rebuild.proofs.is_corner_list.Lts as lts
-use Rattle.rebuild.proofs.follows.Reads as follows-reads
+-- `rebuild::is_corner_list` meets its contract: a turn of the loop passes one corner more. Assumes nothing.
 use Prim.Native.Nat.{_-_}
 use native.Mathlib.Omega.{arith}
 use lib.ListN.{length}
 use Rattle.packed.proofs.Tests.{tells-yes, tells-no}
 use Rattle.rebuild.proofs.Following.{Shaping, shaping-none, shaping-more, shaping-breaks, shaping-ends}
-
+use Rattle.rebuild.proofs.is_corner_list.Statement.{statement}
+use Rattle.rebuild.proofs.is_corner_list.Tie as tie
 
 abbrev Inv-loop : tie.InvT-loop
 Inv-loop outline i₀ i = Shaping outline i

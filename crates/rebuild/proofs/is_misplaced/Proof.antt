@@ -1,13 +1,10 @@
-use borrow.Author.Needs.{needs}
-use Rattle.rebuild.proofs.is_misplaced.Statement.{statement}
-use Rattle.rebuild.proofs.is_misplaced.Tie as tie
-use Rattle.rebuild.proofs.is_misplaced.Reads as reads
-use Rattle.rebuild.proofs.is_misplaced.Lts as lts
-use Rattle.rebuild.proofs.is_corner.Reads as is-corner-reads
+-- `rebuild::is_misplaced` meets its contract: beside the stretch, at one of its ends, or between them. Assumes nothing.
 use native.Mathlib.Omega.{arith}
+use borrow.Author.Needs.{needs}
 use denote.Ref.{now}
 use Rattle.rebuild.proofs.Misplacing.{left-of-row, right-of-row, at-an-end, inside-row}
-
+use Rattle.rebuild.proofs.is_misplaced.Statement.{statement}
+use Rattle.rebuild.proofs.is_misplaced.Tie as tie
 
 returns : tie.Need-returns
 returns c = let a = c .before .before .before in

@@ -1,8 +1,4 @@
-use Rattle.rebuild.proofs.key_at.Statement.{statement}
-use Rattle.rebuild.proofs.key_at.Tie as tie
-use Rattle.rebuild.proofs.key_at.Reads as reads
-use Rattle.rebuild.proofs.key_at.Lts as lts
-use Rattle.packed.proofs.packed.Reads as packed-reads
+-- `rebuild::key_at` meets its contract: the point read is the one at that place. Assumes nothing.
 use mathlib.Core.Path.{_≡_, sym, _∙_, ap, subst}
 use native.Mathlib.Omega.{arith}
 use denote.Ref.{now}
@@ -10,7 +6,8 @@ use Rattle.lattice.specs.Point.{InRange, points, point}
 use Rattle.lattice.proofs.Numbers.{points-length}
 use Rattle.packed.specs.Packed.{packed}
 use Rattle.packed.proofs.Reading.{read-at, read-point}
-
+use Rattle.rebuild.proofs.key_at.Statement.{statement}
+use Rattle.rebuild.proofs.key_at.Tie as tie
 
 mul-x : tie.Need-mul-x
 mul-x c = omega (arith, points-length (now (c .args .list)))
@@ -38,7 +35,6 @@ is-point : (c : tie.After-y)
     → let a = c .before .before .args in read-at (now (a .list)) (a .i) ≡ point (points (now (a .list))) (a .i)
 is-point c = let s = c .before .before in
     read-point (now (s .args .list)) (s .args .i) (record { sfits = c .before .x .given }) (record { sfits = c .y .given }) (s .pre .0)
-
 
 packed-requires : tie.Need-packed-requires
 packed-requires c κs = subst InRange (sym (is-point c)) (c .before .before .pre .1)

@@ -1,9 +1,5 @@
-use Rattle.rebuild.proofs.pack.Statement.{statement}
-use Rattle.rebuild.proofs.pack.Tie as tie
-use Rattle.rebuild.proofs.pack.Reads as reads
-use Rattle.rebuild.proofs.pack.Lts as lts
-use Rattle.rebuild.proofs.key_at.Reads as key-at-reads
-use Prim.Native.Nat.{ℕ, _<_, _≤_, _-_}
+-- `rebuild::pack` meets its contract: a turn of the loop packs one corner more. Assumes nothing.
+use Prim.Native.Nat.{_<_, _≤_, _-_}
 use mathlib.Core.Path.{_≡_, sym, _∙_}
 use mathlib.Core.List.{List, map}
 use native.Mathlib.Omega.{arith}
@@ -12,10 +8,11 @@ use lib.ListN.{length, length-map}
 use Rattle.lattice.specs.Point.{Point, InRange, points}
 use Rattle.lattice.proofs.Numbers.{points-length}
 use Rattle.lattice.proofs.Places.{all-place}
-use Rattle.order.proofs.Filling.{Filling, filling-none, filling-length, filling-more}
 use Rattle.packed.specs.Packed.{packed}
+use Rattle.order.proofs.Filling.{Filling, filling-none, filling-length, filling-more}
 use Rattle.rebuild.proofs.Outlining.{packed-at, outlined}
-
+use Rattle.rebuild.proofs.pack.Statement.{statement}
+use Rattle.rebuild.proofs.pack.Tie as tie
 
 abbrev Inv-loop : tie.InvT-loop
 Inv-loop corners outline₀ n i₀ outline i = Filling (map packed (points corners)) outline₀ outline i
@@ -41,7 +38,6 @@ long c = filling-length _ _ _ _ (fits c) (c .loop .inv)
 
 inside : (c : tie.In-loop Inv-loop μ-loop) → c .before .loop .i < length (points-of (c .before))
 inside c = omega (arith, points-length (now (c .before .before .before .args .corners)), c .loop-test .taken)
-
 
 key-at-requires : tie.Need-key-at-requires Inv-loop μ-loop
 key-at-requires c κs = let l = c .before in

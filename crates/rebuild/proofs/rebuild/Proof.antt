@@ -1,19 +1,14 @@
-use borrow.Author.Needs.{needs}
-use Rattle.rebuild.proofs.rebuild.Statement.{statement}
-use Rattle.rebuild.proofs.rebuild.Tie as tie
-use Rattle.rebuild.proofs.rebuild.Reads as reads
-use Rattle.rebuild.proofs.rebuild.Lts as lts
-use Rattle.rebuild.proofs.rebuild_few.Reads as rebuild-few-reads
-use Rattle.rebuild.proofs.rebuild_many.Reads as rebuild-many-reads
-use Rattle.rebuild.proofs.refusal_of_lists.Reads as refusal-of-lists-reads
+-- `rebuild::rebuild` meets its contract: refusals 1 to 3, and each tier has space enough. Assumes nothing.
 use mathlib.Core.List.{List}
 use native.Mathlib.Omega.{arith}
+use borrow.Author.Needs.{needs}
 use denote.Ref.{now}
 use lib.IntN.{ℤ}
 use Rattle.lattice.proofs.Numbers.{points-length}
 use Rattle.rebuild.specs.Looking.{Taken}
 use Rattle.rebuild.proofs.Rebuilding.{lists-declined, lists-taken, lists-passed}
-
+use Rattle.rebuild.proofs.rebuild.Statement.{statement}
+use Rattle.rebuild.proofs.rebuild.Tie as tie
 
 refusal-of-lists-requires : tie.Need-refusal-of-lists-requires
 refusal-of-lists-requires c κs = search needs
@@ -28,7 +23,6 @@ missing-of c = now (c .before .args .missing)
 abbrev room-of : tie.After-refusal-of-lists → List ℤ
 room-of c = now (c .before .args .room)
 
-
 returns : tie.Need-returns
 returns c = let l = c .before in
     let f = l .refusal-of-lists in
@@ -38,7 +32,6 @@ taken : (c : tie.Else1) → Taken (corners-of (c .before)) (missing-of (c .befor
 taken c = let l = c .before in
     let f = l .refusal-of-lists in
     lists-taken (corners-of l) (missing-of l) (room-of l) (f .result .number) (f .result .place) (f .result .points) (f .ensures) (c .if1 .left)
-
 
 rebuild-few-requires : tie.Need-rebuild-few-requires
 rebuild-few-requires c κs = let e = c .before .before in

@@ -1,14 +1,8 @@
-use borrow.Author.Needs.{needs}
-use Rattle.rebuild.proofs.rebuild_in.Statement.{statement}
-use Rattle.rebuild.proofs.rebuild_in.Tie as tie
-use Rattle.rebuild.proofs.rebuild_in.Reads as reads
-use Rattle.rebuild.proofs.rebuild_in.Lts as lts
-use Rattle.rebuild.proofs.pack.Reads as pack-reads
-use Rattle.rebuild.proofs.refusal_of_points.Reads as refusal-of-points-reads
-use Rattle.rebuild.proofs.result.Reads as result-reads
+-- `rebuild::rebuild_in` meets its contract: the corners packed, refusals 8 to 10, and what results. Assumes nothing.
 use Prim.Native.Nat.{ℕ, _/_}
-use mathlib.Core.Path.{_≡_, sym}
+use mathlib.Core.Path.{sym}
 use mathlib.Core.List.{List}
+use borrow.Author.Needs.{needs}
 use denote.Ref.{now}
 use lib.ListN.{length}
 use lib.Seq.{length-take-le}
@@ -16,7 +10,8 @@ use lib.IntN.{ℤ}
 use Rattle.lattice.specs.Point.{points}
 use Rattle.rebuild.specs.Looking.{Outlines}
 use Rattle.rebuild.proofs.Rebuilding.{front-few, front-below, points-declined, points-walked, points-passed}
-
+use Rattle.rebuild.proofs.rebuild_in.Statement.{statement}
+use Rattle.rebuild.proofs.rebuild_in.Tie as tie
 
 pack-requires : tie.Need-pack-requires
 pack-requires c κs = search needs
@@ -36,7 +31,6 @@ outline-of c = c .pack .last .1 .0
 
 outlines : (c : tie.After-pack) → Outlines (points (corners-of c)) (outline-of c)
 outlines c = c .pack .ensures
-
 
 slice-reshare-prefix-refusal-of-points : tie.Need-slice-reshare-prefix-refusal-of-points
 slice-reshare-prefix-refusal-of-points c = let p = c .before .before in

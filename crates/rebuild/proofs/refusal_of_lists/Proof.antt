@@ -1,14 +1,9 @@
-use borrow.Author.Needs.{needs}
-use Rattle.rebuild.proofs.refusal_of_lists.Statement.{statement}
-use Rattle.rebuild.proofs.refusal_of_lists.Tie as tie
-use Rattle.rebuild.proofs.refusal_of_lists.Reads as reads
-use Rattle.rebuild.proofs.refusal_of_lists.Lts as lts
-use Rattle.rebuild.proofs.declined.Reads as declined-reads
-use Rattle.rebuild.proofs.outside.Reads as outside-reads
+-- `rebuild::refusal_of_lists` meets its contract: each way out is a row of the table. Assumes nothing.
 use Prim.Native.Nat.{_≤_}
 use mathlib.Core.Logic.{_⊎_, inl, inr}
 use mathlib.Core.List.{List}
 use native.Mathlib.Omega.{arith}
+use borrow.Author.Needs.{needs}
 use denote.Ref.{now}
 use lib.ListN.{length}
 use lib.IntN.{ℤ}
@@ -17,7 +12,8 @@ use Rattle.lattice.specs.Refusal.{Odd}
 use Rattle.lattice.proofs.Lists.{either}
 use Rattle.lattice.proofs.Numbers.{points-length}
 use Rattle.rebuild.proofs.Refusing.{looks-as, odd-list, many-corners, corner-outside, point-outside, lists-pass}
-
+use Rattle.rebuild.proofs.refusal_of_lists.Statement.{statement}
+use Rattle.rebuild.proofs.refusal_of_lists.Tie as tie
 
 declined-requires : tie.Need-declined-requires
 declined-requires c κs = search needs
@@ -49,14 +45,13 @@ even c h = either h (λ o. c .before .if1 .left o) (λ o. c .if2 .left o)
 few : (c : tie.Else3) → length (points (corners-of (c .before))) ≤ most
 few c = omega (arith, points-length (corners-of (c .before)), c .if3 .left)
 
-
 returns-3 : tie.Need-returns-3
 returns-3 c = let e = c .before .before in
     looks-as (c .declined3 .ensures)
     (many-corners (corners-of e) (missing-of e) (even e) (omega (arith, points-length (corners-of e), c .before .if3 .taken)))
 
-outside-requires : tie.Need-outside-requires
-outside-requires c κs = search needs
+first-outside-requires : tie.Need-first-outside-requires
+first-outside-requires c κs = search needs
 
 declined-requires-4 : tie.Need-declined-requires-4
 declined-requires-4 c κs = search needs
@@ -65,35 +60,34 @@ returns-4 : tie.Need-returns-4
 returns-4 c = let o = c .before .before in
     let e = o .before .before in
     looks-as (c .declined4 .ensures)
-    (corner-outside (corners-of e) (missing-of e) (even e) (few (o .before)) _ (o .outside .ensures)
+    (corner-outside (corners-of e) (missing-of e) (even e) (few (o .before)) _ (o .first-outside .ensures)
     (omega (arith, points-length (corners-of e), c .before .if4 .taken)))
 
-outside-requires-2 : tie.Need-outside-requires-2
-outside-requires-2 c κs = search needs
+first-outside-requires-2 : tie.Need-first-outside-requires-2
+first-outside-requires-2 c κs = search needs
 
 declined-requires-5 : tie.Need-declined-requires-5
 declined-requires-5 c κs = search needs
 
 -- past the corners: all are in range
 in-range : (c : tie.Else4) → let e = c .before .before .before in
-    length (points (corners-of e)) ≤ c .before .outside .result
+    length (points (corners-of e)) ≤ c .before .first-outside .result
 in-range c = let e = c .before .before .before in
     omega (arith, points-length (corners-of e), c .if4 .left)
-
 
 returns-5 : tie.Need-returns-5
 returns-5 c = let o = c .before .before in
     let p = o .before .before in
     let e = p .before .before in
     looks-as (c .declined5 .ensures)
-    (point-outside (corners-of e) (missing-of e) (even e) (few (p .before)) _ (p .outside .ensures) (in-range (o .before)) _ (o .outside2 .ensures)
+    (point-outside (corners-of e) (missing-of e) (even e) (few (p .before)) _ (p .first-outside .ensures) (in-range (o .before)) _ (o .first-outside2 .ensures)
     (omega (arith, points-length (missing-of e), c .before .if5 .taken)))
 
 returns-6 : tie.Need-returns-6
 returns-6 c = let o = c .before in
     let p = o .before .before in
     let e = p .before .before in
-    lists-pass (corners-of e) (missing-of e) (even e) (few (p .before)) _ (p .outside .ensures) (in-range (o .before)) _ (o .outside2 .ensures)
+    lists-pass (corners-of e) (missing-of e) (even e) (few (p .before)) _ (p .first-outside .ensures) (in-range (o .before)) _ (o .first-outside2 .ensures)
     (omega (arith, points-length (missing-of e), c .if5 .left))
 
 pub refusal-of-lists-spec : {M : Type 1} → statement M
@@ -106,10 +100,10 @@ refusal-of-lists-spec =
     returns-2
     declined-requires-3
     returns-3
-    outside-requires
+    first-outside-requires
     declined-requires-4
     returns-4
-    outside-requires-2
+    first-outside-requires-2
     declined-requires-5
     returns-5
     returns-6)

@@ -1,16 +1,9 @@
-use borrow.Author.Needs.{needs}
-use Rattle.rebuild.proofs.refusal_of_points.Statement.{statement}
-use Rattle.rebuild.proofs.refusal_of_points.Tie as tie
-use Rattle.rebuild.proofs.refusal_of_points.Reads as reads
-use Rattle.rebuild.proofs.refusal_of_points.Lts as lts
-use Rattle.rebuild.proofs.declined.Reads as declined-reads
-use Rattle.rebuild.proofs.first_stray.Reads as first-stray-reads
-use Rattle.rebuild.proofs.is_corner_list.Reads as is-corner-list-reads
-use Rattle.rebuild.proofs.misplaced.Reads as misplaced-reads
+-- `rebuild::refusal_of_points` meets its contract: each way out is a row of the table. Assumes nothing.
 use Prim.Native.Nat.{_≤_}
-use mathlib.Core.Path.{_≡_, subst}
 use mathlib.Core.List.{List, map}
 use native.Mathlib.Omega.{arith}
+use borrow.Author.Needs.{needs}
+use borrow.Author.Tests.{not-true, not-false}
 use denote.Ref.{now}
 use lib.ListN.{length}
 use Rattle.lattice.specs.Point.{Point, points}
@@ -19,8 +12,8 @@ use Rattle.lattice.proofs.Numbers.{points-length}
 use Rattle.packed.specs.Packed.{unpacked}
 use Rattle.packed.proofs.Tests.{tells-yes, tells-no}
 use Rattle.rebuild.proofs.Refusing.{looks-as, no-corner-list, some-stray, some-misplaced, points-pass}
-use borrow.Author.Tests.{not-true, not-false}
-
+use Rattle.rebuild.proofs.refusal_of_points.Statement.{statement}
+use Rattle.rebuild.proofs.refusal_of_points.Tie as tie
 
 is-corner-list-requires : tie.Need-is-corner-list-requires
 is-corner-list-requires c κs = search needs
@@ -49,7 +42,6 @@ points-of c = points (now (c .before .before .before .args .missing))
 listed : (c : tie.Else1) → CornerList (corners-of c) (corners-of c)
 listed c = tells-yes (not-false (c .before .is-corner-list .result) (c .if1 .left)) (c .before .is-corner-list .ensures)
 
-
 returns-2 : tie.Need-returns-2
 returns-2 c = let s = c .before .before in
     let e = s .before in
@@ -57,8 +49,8 @@ returns-2 c = let s = c .before .before in
     (some-stray (corners-of e) (points-of e) (listed e) _ (s .first-stray .ensures)
     (omega (arith, points-length (now (e .before .before .before .args .missing)), c .before .if2 .taken)))
 
-misplaced-requires : tie.Need-misplaced-requires
-misplaced-requires c κs = let e = c .before .before in
+first-misplaced-requires : tie.Need-first-misplaced-requires
+first-misplaced-requires c κs = let e = c .before .before in
     let a = e .before .before .before in
     (record { below = a .pre .0; listed = listed e }, a .pre .1)
 
@@ -70,20 +62,19 @@ in-order : (c : tie.Else2) → length (points-of (c .before .before)) ≤ c .bef
 in-order c =
     omega (arith, points-length (now (c .before .before .before .before .before .args .missing)), c .if2 .left)
 
-
 returns-3 : tie.Need-returns-3
 returns-3 c = let m = c .before .before in
     let s = m .before .before in
     let e = s .before in
     looks-as (c .declined3 .ensures)
-    (some-misplaced (corners-of e) (points-of e) (listed e) _ (s .first-stray .ensures) (in-order (m .before)) _ (m .misplaced .ensures)
+    (some-misplaced (corners-of e) (points-of e) (listed e) _ (s .first-stray .ensures) (in-order (m .before)) _ (m .first-misplaced .ensures)
     (omega (arith, points-length (now (e .before .before .before .args .missing)), c .before .if3 .taken)))
 
 returns-4 : tie.Need-returns-4
 returns-4 c = let m = c .before in
     let s = m .before .before in
     let e = s .before in
-    points-pass (corners-of e) (points-of e) (listed e) _ (s .first-stray .ensures) (in-order (m .before)) _ (m .misplaced .ensures)
+    points-pass (corners-of e) (points-of e) (listed e) _ (s .first-stray .ensures) (in-order (m .before)) _ (m .first-misplaced .ensures)
     (omega (arith, points-length (now (e .before .before .before .args .missing)), c .if3 .left))
 
 pub refusal-of-points-spec : {M : Type 1} → statement M
@@ -96,7 +87,7 @@ refusal-of-points-spec =
     first-stray-requires
     declined-requires-2
     returns-2
-    misplaced-requires
+    first-misplaced-requires
     declined-requires-3
     returns-3
     returns-4)

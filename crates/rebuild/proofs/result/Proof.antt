@@ -1,24 +1,17 @@
-use borrow.Author.Needs.{needs}
-use Rattle.rebuild.proofs.result.Statement.{statement}
-use Rattle.rebuild.proofs.result.Tie as tie
-use Rattle.rebuild.proofs.result.Reads as reads
-use Rattle.rebuild.proofs.result.Lts as lts
-use Rattle.rebuild.proofs.declined.Reads as declined-reads
-use Rattle.walk.proofs.count.Reads as count-reads
-use Rattle.walk.proofs.write.Reads as write-reads
+-- `rebuild::result` meets its contract: what is counted decides both refusals, and walk::write writes it. Assumes nothing.
 use Prim.Native.Nat.{_-_, _/_}
 use mathlib.Core.Path.{_≡_}
 use mathlib.Core.List.{List, map}
 use native.Mathlib.Omega.{arith}
+use borrow.Author.Needs.{needs}
 use denote.Ref.{now}
 use lib.ListN.{length}
-use lib.IntN.{ℤ}
-use Rattle.lattice.specs.Point.{Point, points, Lists}
-use Rattle.lattice.specs.Hull.{InHull, Of}
+use Rattle.lattice.specs.Point.{Point, points}
 use Rattle.lattice.proofs.Numbers.{points-length}
 use Rattle.packed.specs.Packed.{unpacked}
 use Rattle.rebuild.proofs.Rebuilding.{missing-fewer, too-many, room-small, room-takes, written, outcome-as}
-
+use Rattle.rebuild.proofs.result.Statement.{statement}
+use Rattle.rebuild.proofs.result.Tie as tie
 
 count-requires : tie.Need-count-requires
 count-requires c κs = c .before .pre .cornered
@@ -37,11 +30,14 @@ all-of c = c .count .ensures .0
 result-length : (c : tie.After-count) → length (all-of c) - length (points-of c) ≡ c .count .result - length (now (c .before .before .args .missing)) / 2
 result-length c = omega (arith, points-length (now (c .before .before .args .missing)), c .count .ensures .2)
 
-
 sub-count : tie.Need-sub-count
 sub-count c = let a = c .before .before in
-    omega (arith, points-length (now (a .args .missing)), c .count .ensures .2,
-    missing-fewer (corners-of c) (points-of c) (a .pre .order) (a .pre .inside) (all-of c) (c .count .ensures .1))
+    omega (
+      arith,
+      points-length (now (a .args .missing)),
+      c .count .ensures .2,
+      missing-fewer (corners-of c) (points-of c) (a .pre .order) (a .pre .inside) (all-of c) (c .count .ensures .1),
+    )
 
 declined-requires : tie.Need-declined-requires
 declined-requires c κs = search needs

@@ -1,16 +1,13 @@
-use borrow.Author.Needs.{needs}
-use Rattle.rebuild.proofs.stretch_of.Statement.{statement}
-use Rattle.rebuild.proofs.stretch_of.Tie as tie
-use Rattle.rebuild.proofs.stretch_of.Reads as reads
-use Rattle.rebuild.proofs.stretch_of.Lts as lts
-use Rattle.stretch.proofs.of_row.Reads as of-row-reads
+-- `rebuild::stretch_of` meets its contract: the row known, one before the hull or behind it, or one of its rows. Assumes nothing.
 use mathlib.Core.Path.{sym, subst}
 use mathlib.Core.List.{map}
+use borrow.Author.Needs.{needs}
 use denote.Ref.{now}
 use Rattle.packed.specs.Packed.{unpacked}
 use Rattle.stretch.specs.Stretch.{StretchOf}
 use Rattle.rebuild.proofs.Misplacing.{row-before, row-behind}
-
+use Rattle.rebuild.proofs.stretch_of.Statement.{statement}
+use Rattle.rebuild.proofs.stretch_of.Tie as tie
 
 returns : tie.Need-returns
 returns c = let a = c .before .before in

@@ -1,8 +1,4 @@
-use Rattle.rebuild.proofs.outside.Statement.{statement}
-use Rattle.rebuild.proofs.outside.Tie as tie
-use Rattle.rebuild.proofs.outside.Reads as reads
-use Rattle.rebuild.proofs.outside.Lts as lts
-use Rattle.packed.proofs.in_range.Reads as in-range-reads
+-- `rebuild::first_outside` meets its contract: a turn of the loop passes one point more. Assumes nothing.
 use Prim.Native.Nat.{ℕ, _<_, _-_}
 use mathlib.Core.Path.{_≡_, sym, subst}
 use mathlib.Core.List.{List}
@@ -16,7 +12,8 @@ use Rattle.lattice.proofs.Numbers.{points-length}
 use Rattle.packed.proofs.Tests.{tells-yes, tells-no}
 use Rattle.packed.proofs.Reading.{read-at, read-point}
 use Rattle.rebuild.proofs.Passing.{Passing, passing-none, passing-more, passing-stops, passing-ends}
-
+use Rattle.rebuild.proofs.first_outside.Statement.{statement}
+use Rattle.rebuild.proofs.first_outside.Tie as tie
 
 abbrev Inv-loop : tie.InvT-loop
 Inv-loop list n i₀ i = Passing (length (points list)) (AtPoint OutOfRange (points list)) i
@@ -62,7 +59,6 @@ is-point : (c : tie.After-y Inv-loop μ-loop) → read-at (list-of c) (place c) 
 is-point c =
     read-point (list-of c) (place c) (record { sfits = c .before .x .given }) (record { sfits = c .y .given }) (inside c)
 
-
 in-range-requires : tie.Need-in-range-requires Inv-loop μ-loop
 in-range-requires c κs = omega arith
 
@@ -85,8 +81,8 @@ returns c = let y = c .before .before in
 returns-2 : tie.Need-returns-2 Inv-loop μ-loop
 returns-2 c = passing-ends _ _ _ (c .before .loop .inv) (omega (arith, points-length (now (c .before .before .args .list))))
 
-pub outside-spec : {M : Type 1} → statement M
-outside-spec =
+pub first-outside-spec : {M : Type 1} → statement M
+first-outside-spec =
     tie.close
     (tie.spec
     Inv-loop
