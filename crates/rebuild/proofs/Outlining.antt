@@ -9,8 +9,9 @@ use Rattle.lattice.specs.Point.{Point, InRange, point, All}
 use Rattle.lattice.proofs.Places.{nowhere, all-place}
 use Rattle.packed.specs.Packed.{cells, packed, unpacked}
 use Rattle.packed.proofs.RowOrder.{packed-below, unpacked-packed}
+use Rattle.order.specs.Keys.{Below}
 use Rattle.order.proofs.Filling.{Filling, filling-length, filling-ends}
-use Rattle.rebuild.specs.Looking.{Below, Outlines}
+use Rattle.rebuild.specs.Looking.{Outlines}
 
 pub packed-at : (s : List Point) (i : ℕ) → i < length s → getD (map packed s) i 0 ≡ packed (point s i)
 packed-at [] i h = nowhere i h

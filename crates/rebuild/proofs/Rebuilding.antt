@@ -21,10 +21,11 @@ use Rattle.lattice.proofs.RowLists.{lists-split}
 use Rattle.lattice.proofs.MissingLists.{kept-list-exists}
 use Rattle.lattice.proofs.Demand.{rebuild-accepts}
 use Rattle.packed.specs.Packed.{unpacked}
+use Rattle.order.specs.Keys.{Below}
 use Rattle.walk.specs.Walk.{Walked}
 use Rattle.rebuild.specs.declared.Rebuilt.{Rebuilt}
 use Rattle.rebuild.specs.Rebuild.{inputRows, Results, resultRows, RebuildResult, Outcome, pointRows, rebuildTable, RebuildPromise}
-use Rattle.rebuild.specs.Looking.{Taken, Behind, Looks, Below, Outlines}
+use Rattle.rebuild.specs.Looking.{Taken, Behind, Looks, Outlines}
 
 -- ---- rows that decline, rows that let pass
 module _ (t later : Table) (c m : List Point) (room : List ℤ) where

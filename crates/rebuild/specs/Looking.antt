@@ -1,4 +1,4 @@
--- What is looked at before a point is written: lists in range, the first place with a fault, the shape of the corners, the columns of a row. Assumes nothing.
+-- What is looked at before a point is written: lists in range, the first place with a fault, the shape of the corners. Assumes nothing.
 use mathlib.Core.Path.{_≡_}
 use mathlib.Core.List.{List, map}
 use Prim.Native.Nat.{ℕ, _-_, _≤_, _<_}
@@ -8,7 +8,8 @@ use lib.Signed.{_<ℤ_}
 use Rattle.lattice.specs.Point.{Point, InRange, most, points, All, Before}
 use Rattle.lattice.specs.Hull.{turn}
 use Rattle.lattice.specs.Refusal.{Table, Gives}
-use Rattle.packed.specs.Packed.{cells, unpacked}
+use Rattle.packed.specs.Packed.{unpacked}
+use Rattle.order.specs.Keys.{Below}
 use Rattle.rebuild.specs.declared.Rebuilt.{Rebuilt}
 use Rattle.rebuild.specs.Rebuild.{Outcome, pointRows}
 
@@ -36,10 +37,6 @@ pub record FirstBelow (n : ℕ) (P : ℕ → Type 0) (r : ℕ) : Type 0 where
 -- the corner at a place
 abbrev pub at : List ℕ → ℕ → Point
 at outline i = unpacked (getD outline i 0)
-
--- each is a packed point
-abbrev pub Below : List ℕ → Type 0
-Below outline = (i : ℕ) → i < length outline → getD outline i 0 < cells
 
 -- the points of s stand at the front of an array, packed, in the order of s
 pub record Outlines (s : List Point) (outline : List ℕ) : Type 0 where

@@ -50,5 +50,6 @@ pointRows corners missing room =
 abbrev pub rebuildTable : List ℤ → List ℤ → List ℤ → Table
 rebuildTable corners missing room = inputRows corners missing (pointRows corners missing room)
 
+-- for every list and every room
 abbrev pub RebuildPromise : List ℤ → List ℤ → List ℤ → Rebuilt → List ℤ → Type 0
 RebuildPromise corners missing room = Outcome (rebuildTable corners missing room) (points corners) (points missing) room

@@ -7,10 +7,11 @@ ghost use Rattle.lattice.specs.Point.{InRange, points, point, In, All};
 ghost use Rattle.lattice.specs.Hull.{CornerList};
 ghost use Rattle.lattice.specs.Refusal.{accepted, AtPoint, Strays, OutOfRange, Misplaced, rebuildRows};
 ghost use Rattle.packed.specs.Packed.{Tells, side, cells, packed as packedOf, unpacked};
+ghost use Rattle.order.specs.Keys.{Below};
 ghost use Rattle.stretch.specs.Stretch.{StretchOf};
 ghost use Rattle.walk.specs.Walk.{Cornered, Walked, Greatest};
 ghost use Rattle.rebuild.specs.Rebuild.{inputRows, resultRows, Outcome, RebuildPromise};
-ghost use Rattle.rebuild.specs.Looking.{Taken, Behind, Looks, FirstBelow, Below, Outlines, Follows};
+ghost use Rattle.rebuild.specs.Looking.{Taken, Behind, Looks, FirstBelow, Outlines, Follows};
 use stretch::Stretch;
 
 // What Rebuild answers: number and place, 0 and 0 if accepted, and how many points there are.
