@@ -12,7 +12,7 @@ returns c = let a = c .before .before .before in
 
 returns-2 : tie.Need-returns-2
 returns-2 c = let a = c .before .before .before .before .before in
-    right-of-row (now (a .args .outline)) (a .pre .0) (a .args .k) (a .args .stretch) (a .pre .1) (c .if2 .taken)
+    right-of-row (now (a .args .outline)) (a .pre .0) (a .args .k) (a .args .stretch) (a .pre .1) (omega (arith, c .if2 .taken))
 
 is-corner-requires : tie.Need-is-corner-requires
 is-corner-requires c κs = search needs
@@ -20,7 +20,7 @@ is-corner-requires c κs = search needs
 returns-3 : tie.Need-returns-3
 returns-3 c = let e = c .before .before .before in
     let a = e .before .before .before .before .before in
-    at-an-end (now (a .args .outline)) (a .pre .0) (a .args .k) (a .args .stretch) (a .pre .1) (e .before .before .if1 .left) (e .if2 .left) (c .is-corner .result) (c .is-corner .ensures)
+    at-an-end (now (a .args .outline)) (a .pre .0) (a .args .k) (a .args .stretch) (a .pre .1) (e .before .before .if1 .left) (omega (arith, e .if2 .left)) (c .is-corner .result) (c .is-corner .ensures)
 
 add-if4 : tie.Need-add-if4
 add-if4 c = search needs
@@ -31,12 +31,12 @@ is-corner-requires-2 c κs = search needs
 returns-4 : tie.Need-returns-4
 returns-4 c = let e = c .before .before .before .before .before in
     let a = e .before .before .before .before .before in
-    at-an-end (now (a .args .outline)) (a .pre .0) (a .args .k) (a .args .stretch) (a .pre .1) (e .before .before .if1 .left) (e .if2 .left) (c .is-corner2 .result) (c .is-corner2 .ensures)
+    at-an-end (now (a .args .outline)) (a .pre .0) (a .args .k) (a .args .stretch) (a .pre .1) (e .before .before .if1 .left) (omega (arith, e .if2 .left)) (c .is-corner2 .result) (c .is-corner2 .ensures)
 
 returns-5 : tie.Need-returns-5
 returns-5 c = let e = c .before .before .before .before in
     let a = e .before .before .before .before .before in
-    inside-row (now (a .args .outline)) (a .pre .0) (a .args .k) (a .args .stretch) (a .pre .1) (e .before .before .if1 .left) (e .if2 .left)
+    inside-row (now (a .args .outline)) (a .pre .0) (a .args .k) (a .args .stretch) (a .pre .1) (e .before .before .if1 .left) (omega (arith, e .if2 .left))
     (omega (arith, e .before .before .if1 .left, c .before .before .if3 .left)) (omega (arith, e .if2 .left, c .if4 .left))
 
 pub is-misplaced-spec : {M : Type 1} → statement M
