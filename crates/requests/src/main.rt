@@ -6,6 +6,7 @@ mod hulling;
 mod ordering;
 mod parts;
 mod reading;
+mod rebuilding;
 mod rows;
 mod state;
 mod writing;
@@ -36,6 +37,7 @@ fn answered(
         2 => hulling::hull(input, output, list, ordered, corners, source, sink),
         5 => rows::row_ends(input, output, list, source, sink),
         6 => rows::row(input, output, list, source, sink),
+        7 => rebuilding::rebuild(input, output, ordered, corners, missing, source, sink),
         _ => state::bad(source, sink),
     }
 }

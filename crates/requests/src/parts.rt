@@ -153,3 +153,20 @@ pub(crate) fn write_room(output: &mut [u8], sink: Sink, array: &[i32], room: Roo
     let length = within(room.length, array);
     write_part(output, sink, &array[..length], room.first)
 }
+
+// Answers `number place points ROOM'`, of a call with one room.
+pub(crate) fn write_points(
+    output: &mut [u8],
+    sink: Sink,
+    number: u32,
+    place: usize,
+    points: usize,
+    array: &[i32],
+    room: Room,
+) -> Sink {
+    let numbered = writing::natural(output, sink, number as u64);
+    let placed = writing::natural(output, numbered, place as u64);
+    let counted = writing::natural(output, placed, points as u64);
+    let written = write_room(output, counted, array, room);
+    writing::line_end(output, written)
+}
