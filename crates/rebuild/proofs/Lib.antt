@@ -6,3 +6,4 @@ pub mod Straying
 pub mod Misplacing
 pub mod Refusing
 pub mod Rebuilding
+pub mod WayBack
