@@ -174,7 +174,7 @@ hulls-equal s ordered corners n m count total ordered′ ordered″ corners′ c
       h .corner-room ∙ ap (λ l. holding l corners) d ∙ sym (g .corner-room),
     )
 
-results-equal : (list ordered corners : List ℤ) (number n m count total : ℕ) (ordered′ ordered″ corners′ corners″ : List ℤ)
+pub results-equal : (list ordered corners : List ℤ) (number n m count total : ℕ) (ordered′ ordered″ corners′ corners″ : List ℤ)
     → HullResult list ordered corners number n count ordered′ corners′ → HullResult list ordered corners number m total ordered″ corners″
     → (n ≡ m) × (count ≡ total) × (ordered′ ≡ ordered″) × (corners′ ≡ corners″)
 results-equal list ordered corners zero n m count total ordered′ ordered″ corners′ corners″ h g =
