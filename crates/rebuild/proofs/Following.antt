@@ -19,7 +19,6 @@ use Rattle.packed.specs.Packed.{Tells, unpacked}
 use Rattle.packed.proofs.RowOrder.{before-unpacked, unpacked-before}
 use Rattle.packed.proofs.KeyLaws.{unpacked-at}
 use Rattle.packed.proofs.Tests.{lt-yes}
-use Rattle.walk.specs.Walk.{Cornered}
 use Rattle.rebuild.specs.Looking.{at, Follows}
 
 not-less : {a b : ℤ} → ltZ a b ≡ false → a <ℤ b → ⊥
@@ -116,13 +115,6 @@ module _ (outline : List ℕ) where
         at-left i (suc i) (suc (suc i)) (omega arith) (omega arith) k
         (as-left (suc (suc i)) (omega arith) (omega arith) (f (suc (suc i)) (omega arith) k .bends (omega arith)));
   }
-
--- the first corner is the least
-pub first-least : (outline : List ℕ) → Cornered outline → (i : ℕ) → i < length outline → getD outline 0 0 ≤ getD outline i 0
-first-least outline h zero l = omega arith
-first-least outline h (suc i) l =
-    let b = unpacked-before (getD outline 0 0) (getD outline (suc i) 0) (listed-follows outline (h .listed) (suc i) (omega arith) l .after) in
-    omega (arith, b)
 
 -- ---- the loop: all corners before place i follow
 pub record Shaping (outline : List ℕ) (i : ℕ) : Type 0 where

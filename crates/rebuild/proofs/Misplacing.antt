@@ -6,27 +6,26 @@ use mathlib.Core.List.{List, [], _∷_, map}
 use Prim.Native.Nat.{ℕ, _+_, _-_, _/_, _%_, _≤_, _<_}
 use native.Mathlib.Omega.{arith}
 use lib.ListN.{length, getD}
-use Rattle.lattice.specs.Point.{Point, point, In, Before}
-use Rattle.lattice.specs.Hull.{InHull, member, segment, triangle, Of}
+use Rattle.whole.proofs.Whole.{quote, gap≤, gap<, _⊞_, linear⊥}
+use Rattle.lattice.specs.Point.{Point, point, In}
+use Rattle.lattice.specs.Hull.{InHull, member, Of}
 use Rattle.lattice.specs.Refusal.{AtPoint, Misplaced}
 use Rattle.lattice.proofs.Lists.{either}
 use Rattle.lattice.proofs.Places.{nowhere}
-use Rattle.lattice.proofs.RowOrder.{before-irreflexive}
-use Rattle.lattice.proofs.RowKey.{hull-after, hull-before}
 use Rattle.lattice.proofs.RowEnds.{inner-of-row-no-corner}
 use Rattle.lattice.proofs.Sandwich.{Spans, corner-list-of-spanned}
 use Rattle.lattice.proofs.CornerLists.{corner-list-shape}
-use Rattle.packed.specs.Packed.{Tells, side, unpacked}
-use Rattle.packed.proofs.RowOrder.{unpacked-injective}
+use Rattle.packed.specs.Packed.{Tells, side, placed, unpacked}
+use Rattle.packed.proofs.RowOrder.{placed-order, placed-grows, unpacked-injective}
 use Rattle.packed.proofs.KeyLaws.{unpacked-in, in-unpacked}
 use Rattle.packed.proofs.Tests.{tells-as}
 use Rattle.stretch.specs.Stretch.{cell, Within, Rowed, StretchOf}
 use Rattle.stretch.specs.declared.Stretch.{Stretch}
 use Rattle.stretch.proofs.Counting.{is-cell-before, is-before-cell}
 use Rattle.walk.specs.Walk.{Cornered, Greatest}
+use Rattle.walk.proofs.Walking.{nothing, rowed, in-rows}
 use Rattle.rebuild.specs.Looking.{FirstBelow}
 use Rattle.rebuild.proofs.Passing.{Passing}
-use Rattle.rebuild.proofs.Following.{first-least}
 
 -- ---- a corner
 module _ (outline : List ℕ) (k i : ℕ) where
@@ -39,63 +38,41 @@ module _ (outline : List ℕ) (k i : ℕ) where
       h .clear (r .0) (omega (arith, r .1)) (sym (unpacked-injective k (getD outline (r .0) 0) (r .2)))
 
 -- ---- no corners
-hull-of-none : (p : Point) → InHull (Of []) p → ⊥
-hull-of-none p (member m) = m
-hull-of-none p (segment a b i j h) = i
-hull-of-none p (triangle a b c i j k h) = i
-
 pub none-inside : (outline : List ℕ) → length outline ≡ 0 → (m : List Point) → FirstBelow (length m) (AtPoint (Misplaced (map unpacked outline)) m) 0
-none-inside [] e m =
-    record { upto = omega arith; earlier = λ j l. nowhere j l; here = λ l. (l, inl (hull-of-none (point m 0))) }
-none-inside (k ∷ outline) e m = absurd (omega (arith, e))
+none-inside outline e m =
+    record { upto = omega arith; earlier = λ j l. nowhere j l; here = λ l. (l, inl (nothing outline e (point m 0))) }
 
--- ---- rows before the first corner and behind the last
-abbrev nothing : Stretch
-nothing = record { from = 0; to = 0 }
+-- ---- rows: that of the first corner, those before it, and those behind that of the last corner
+abbrev none : Stretch
+none = record { from = 0; to = 0 }
 
-empty-row : (c : List Point) (y : ℕ) → ((x : ℕ) → x < side → InHull (Of c) (cell x y) → ⊥) → StretchOf c y nothing
-empty-row c y none = record {
+empty-row : (c : List Point) (y : ℕ) → ((x : ℕ) → InHull (Of c) (cell x y) → ⊥) → StretchOf c y none
+empty-row c y outside = record {
   rising = omega arith;
   few = omega arith;
   inside = λ x w. absurd (never x w);
-  all = λ x l m. absurd (none x l m);
+  all = λ x l m. absurd (outside x m);
 }
   where
-    never : (x : ℕ) → Within nothing x → ⊥
+    never : (x : ℕ) → Within none x → ⊥
     never x w = omega (arith, w .to)
 
-module _ (outline : List ℕ) (y : ℕ) where
-  -- each corner lies on the same side of the point of row y in column x, so the hull does
-  pub row-before : Cornered outline → y < getD outline 0 0 / side → StretchOf (map unpacked outline) y nothing
-  row-before h l = empty-row (map unpacked outline) y
-      (λ x s m. before-irreflexive (cell x y)
-      (hull-after (Of (map unpacked outline)) (cell x y) (cell x y)
-      (λ q i. let r = in-unpacked outline q i in
-      subst (Before (cell x y)) (sym (r .2))
-      (is-cell-before (getD outline (r .0) 0) x y s (omega (arith, l, s, first-least outline h (r .0) (r .1))))) m))
+module _ (outline : List ℕ) (h : Cornered outline) (last : ℕ) (g : Greatest outline last) where
+  some : 0 < length outline
+  some = omega (arith, g .held .1)
 
-  pub row-behind : (last : ℕ) → Greatest outline last → last / side < y → StretchOf (map unpacked outline) y nothing
-  row-behind last g l = empty-row (map unpacked outline) y
-      (λ x s m. before-irreflexive (cell x y)
-      (hull-before (Of (map unpacked outline)) (cell x y) (cell x y)
-      (λ q i. let r = in-unpacked outline q i in
-      subst (λ z. Before z (cell x y)) (sym (r .2))
-      (is-before-cell (getD outline (r .0) 0) x y s (omega (arith, l, g .greatest (r .0) (r .1))))) m))
+  pub first-row : Rowed outline last (getD outline 0 0 / side)
+  first-row = rowed outline h some last g (getD outline 0 0 / side) (omega arith) (omega (arith, g .greatest 0 some))
 
--- the first corner's row is a row of the hull
-pub first-row : (outline : List ℕ) → Cornered outline → (last : ℕ) → Greatest outline last → Rowed outline last (getD outline 0 0 / side)
-first-row outline h last g = record {
-  some = some;
-  below = h .below;
-  listed = h .listed;
-  greatest = g .greatest;
-  held = g .held;
-  from-row = omega arith;
-  to-row = omega (arith, g .greatest 0 some);
-}
-  where
-    some : 0 < length outline
-    some = omega (arith, g .held .1)
+  pub row-before : (y : ℕ) → y < getD outline 0 0 / side → StretchOf (map unpacked outline) y none
+  row-before y l = empty-row (map unpacked outline) y (λ x m.
+      linear⊥ (placed y ∷ placed (getD outline 0 0 / side) ∷ [])
+      (gap≤ (in-rows outline h some last g (cell x y) m .0) ⊞ gap< (placed-order y (getD outline 0 0 / side) l)) (search quote depth 20) tt)
+
+  pub row-behind : (y : ℕ) → last / side < y → StretchOf (map unpacked outline) y none
+  row-behind y l = empty-row (map unpacked outline) y (λ x m.
+      linear⊥ (placed y ∷ placed (last / side + 1) ∷ [])
+      (gap< (in-rows outline h some last g (cell x y) m .1) ⊞ placed-grows (last / side + 1) y (omega arith)) (search quote depth 20) tt)
 
 -- ---- a point of a row whose stretch is known
 module _ (outline : List ℕ) (h : Cornered outline) (k : ℕ) (s : Stretch) (t : StretchOf (map unpacked outline) (k / side) s) where

@@ -7,11 +7,11 @@ use lib.IntN.{ℤ, pos}
 use lib.Signed.{_<ℤ_}
 use Rattle.lattice.specs.Point.{Point, InRange, most, points, All, Before}
 use Rattle.lattice.specs.Hull.{turn}
-use Rattle.lattice.specs.Refusal.{Table, Gives}
+use Rattle.lattice.specs.Refusal.{Table, accepted, Gives, AtPoint, Strays, OutOfRange, Misplaced}
 use Rattle.packed.specs.Packed.{unpacked}
 use Rattle.order.specs.Keys.{Below}
 use Rattle.rebuild.specs.declared.Rebuilt.{Rebuilt}
-use Rattle.rebuild.specs.Rebuild.{Outcome, pointRows}
+use Rattle.rebuild.specs.Rebuild.{resultRows, Outcome, pointRows}
 
 -- lists that pass refusals 1 to 3
 pub record Taken (corners missing : List ℤ) : Type 0 where
@@ -23,6 +23,11 @@ pub record Taken (corners missing : List ℤ) : Type 0 where
 abbrev pub Behind : List ℤ → List ℤ → List ℤ → Rebuilt → List ℤ → Type 0
 Behind corners missing room = Outcome (pointRows corners missing room) (points corners) (points missing) room
 
+-- what comes of packed corners and missing points that pass 8 to 10 as well
+abbrev pub Resulting : List ℕ → List ℤ → List ℤ → Rebuilt → List ℤ → Type 0
+Resulting outline missing room =
+    Outcome (resultRows (map unpacked outline) (points missing) room accepted) (map unpacked outline) (points missing) room
+
 -- what some rows of the table give, where nothing is counted yet
 pub record Looks (t : Table) (answer : Rebuilt) : Type 0 where
   pub gives : Gives t (answer .number) (answer .place)
@@ -33,6 +38,16 @@ pub record FirstBelow (n : ℕ) (P : ℕ → Type 0) (r : ℕ) : Type 0 where
   pub upto : r ≤ n
   pub earlier : (j : ℕ) → j < r → P j → ⊥
   pub here : r < n → P r
+
+-- "first such point", "first that doesn't follow the one before", "first such point"
+abbrev pub FirstOutside : List ℤ → ℕ → Type 0
+FirstOutside list = FirstBelow (length (points list)) (AtPoint OutOfRange (points list))
+
+abbrev pub FirstStray : List ℤ → ℕ → Type 0
+FirstStray missing = FirstBelow (length (points missing)) (Strays (points missing))
+
+abbrev pub FirstMisplaced : List ℕ → List ℤ → ℕ → Type 0
+FirstMisplaced outline missing = FirstBelow (length (points missing)) (AtPoint (Misplaced (map unpacked outline)) (points missing))
 
 -- the corner at a place
 abbrev pub at : List ℕ → ℕ → Point

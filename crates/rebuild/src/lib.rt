@@ -5,13 +5,13 @@ ghost use Prim.Native.Nat.{_<_, _≤_, _/_};
 ghost use lib.ListN.{length};
 ghost use Rattle.lattice.specs.Point.{InRange, points, point, In, All};
 ghost use Rattle.lattice.specs.Hull.{CornerList};
-ghost use Rattle.lattice.specs.Refusal.{accepted, AtPoint, Strays, OutOfRange, Misplaced, rebuildRows};
+ghost use Rattle.lattice.specs.Refusal.{accepted, Misplaced, rebuildRows};
 ghost use Rattle.packed.specs.Packed.{Tells, side, cells, packed as packedOf, unpacked};
 ghost use Rattle.order.specs.Keys.{Below};
 ghost use Rattle.stretch.specs.Stretch.{StretchOf};
 ghost use Rattle.walk.specs.Walk.{Cornered, Walked, Greatest};
-ghost use Rattle.rebuild.specs.Rebuild.{inputRows, resultRows, Outcome, RebuildPromise};
-ghost use Rattle.rebuild.specs.Looking.{Taken, Behind, Looks, FirstBelow, Outlines, Follows};
+ghost use Rattle.rebuild.specs.Rebuild.{inputRows, RebuildPromise};
+ghost use Rattle.rebuild.specs.Looking.{Taken, Behind, Resulting, Looks, FirstOutside, FirstStray, FirstMisplaced, Outlines, Follows};
 use stretch::Stretch;
 
 // What Rebuild answers: number and place, 0 and 0 if accepted, and how many points there are.
@@ -35,7 +35,7 @@ fn key_at(list: &[i32], i: usize) -> u32
 
 // The first point that is out of range; how many points there are if none is.
 fn first_outside(list: &[i32]) -> usize
-    ensures { λ r. ⌜ FirstBelow (length (points (now (list .entry)))) (AtPoint OutOfRange (points (now (list .entry)))) r ⌝ }
+    ensures { λ r. ⌜ FirstOutside (now (list .entry)) r ⌝ }
 {
     let n = list.len() / 2;
     let mut i: usize = 0;
@@ -105,7 +105,7 @@ fn is_corner_list(outline: &[u32]) -> bool
 // The first missing point that does not follow the one before; how many there are if each does.
 fn first_stray(missing: &[i32]) -> usize
     requires { ⌜ All InRange (points (now missing)) ⌝ }
-    ensures { λ r. ⌜ FirstBelow (length (points (now (missing .entry)))) (Strays (points (now (missing .entry)))) r ⌝ }
+    ensures { λ r. ⌜ FirstStray (now (missing .entry)) r ⌝ }
 {
     let n = missing.len() / 2;
     let mut least: u32 = 0;
@@ -176,8 +176,7 @@ fn is_misplaced(outline: &[u32], stretch: Stretch, k: u32) -> bool
 // The first missing point that is misplaced; how many there are if none is. Each row's stretch is looked for once.
 fn misplaced_by_rows(outline: &[u32], last: u32, missing: &[i32]) -> usize
     requires { ⌜ Cornered (now outline) × Greatest (now outline) last × All InRange (points (now missing)) ⌝ }
-    ensures { λ r. ⌜ FirstBelow (length (points (now (missing .entry))))
-        (AtPoint (Misplaced (map unpacked (now (outline .entry)))) (points (now (missing .entry)))) r ⌝ }
+    ensures { λ r. ⌜ FirstMisplaced (now (outline .entry)) (now (missing .entry)) r ⌝ }
 {
     let n = missing.len() / 2;
     let mut y = outline[0] / SIDE;
@@ -198,8 +197,7 @@ fn misplaced_by_rows(outline: &[u32], last: u32, missing: &[i32]) -> usize
 // The first missing point that is outside the corners' hull or is a corner; how many there are if none is.
 fn first_misplaced(outline: &[u32], missing: &[i32]) -> usize
     requires { ⌜ Cornered (now outline) × All InRange (points (now missing)) ⌝ }
-    ensures { λ r. ⌜ FirstBelow (length (points (now (missing .entry))))
-        (AtPoint (Misplaced (map unpacked (now (outline .entry)))) (points (now (missing .entry)))) r ⌝ }
+    ensures { λ r. ⌜ FirstMisplaced (now (outline .entry)) (now (missing .entry)) r ⌝ }
 {
     if outline.len() == 0 {
         return 0;
@@ -273,8 +271,7 @@ fn refusal_of_points(outline: &[u32], missing: &[i32]) -> Rebuilt
 // Refusals 11 and 12, or the points that result at the front of the room.
 fn result(outline: &[u32], missing: &[i32], room: &mut [i32]) -> Rebuilt
     requires { ⌜ Walked (now outline) (now missing) ⌝ }
-    ensures { λ r. ⌜ Outcome (resultRows (map unpacked (now (outline .entry))) (points (now (missing .entry))) (now (room .entry)) accepted)
-        (map unpacked (now (outline .entry))) (points (now (missing .entry))) (now (room .entry)) r (now (room .exit)) ⌝ }
+    ensures { λ r. ⌜ Resulting (now (outline .entry)) (now (missing .entry)) (now (room .entry)) r (now (room .exit)) ⌝ }
 {
     let count = walk::count(outline) - (missing.len() / 2) as u64;
     if count > packed::MOST as u64 {

@@ -17,10 +17,12 @@ shared-slice-read-if2 : tie.Need-shared-slice-read-if2
 shared-slice-read-if2 c = search needs
 
 returns-2 : tie.Need-returns-2
-returns-2 c = row-before _ _ (c .before .before .before .before .pre .0) (c .if2 .taken)
+returns-2 c = let a = c .before .before .before .before in
+    row-before _ (a .pre .0) _ (a .pre .1) _ (c .if2 .taken)
 
 returns-3 : tie.Need-returns-3
-returns-3 c = row-behind _ _ _ (c .before .before .before .before .before .pre .1) (c .if3 .taken)
+returns-3 c = let a = c .before .before .before .before .before in
+    row-behind _ (a .pre .0) _ (a .pre .1) _ (c .if3 .taken)
 
 of-row-requires : tie.Need-of-row-requires
 of-row-requires c κs = search needs
