@@ -6,6 +6,7 @@ mod hulling;
 mod ordering;
 mod parts;
 mod reading;
+mod rebuilding;
 mod reporting;
 mod rows;
 mod state;
@@ -39,6 +40,7 @@ fn answered(
         4 => reporting::report(input, output, list, ordered, corners, missing, source, sink),
         5 => rows::row_ends(input, output, list, source, sink),
         6 => rows::row(input, output, list, source, sink),
+        7 => rebuilding::rebuild(input, output, ordered, corners, missing, source, sink),
         _ => state::bad(source, sink),
     }
 }

@@ -6,7 +6,6 @@ use crate::reading;
 use crate::reading::Source;
 use crate::state;
 use crate::state::State;
-use crate::writing;
 use crate::writing::Sink;
 use order::Ordered;
 
@@ -16,21 +15,6 @@ fn ask_order(list: &[i32], ordered: &mut [i32], asked: Asked) -> Ordered {
     let count = parts::within(asked.count, list);
     let length = parts::within(room.length, ordered);
     order::order(&list[..count], &mut ordered[..length])
-}
-
-// Answers `number place points ROOM'`.
-fn write_order(
-    output: &mut [u8],
-    ordered: &[i32],
-    asked: Asked,
-    answer: Ordered,
-    sink: Sink,
-) -> Sink {
-    let number = writing::natural(output, sink, answer.number as u64);
-    let place = writing::natural(output, number, answer.place as u64);
-    let points = writing::natural(output, place, answer.points as u64);
-    let room = parts::write_room(output, points, ordered, asked.ordered);
-    writing::line_end(output, room)
 }
 
 // Order: `1 LIST ROOM`.
@@ -46,7 +30,15 @@ pub(crate) fn order(
     let behind = asked.source;
     if reading::is_whole(behind) {
         let answer = ask_order(list, ordered, asked);
-        let written = write_order(output, ordered, asked, answer, sink);
+        let written = parts::write_points(
+            output,
+            sink,
+            answer.number,
+            answer.place,
+            answer.points,
+            ordered,
+            asked.ordered,
+        );
         return State {
             source: behind,
             sink: written,

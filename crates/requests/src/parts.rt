@@ -154,6 +154,13 @@ pub(crate) fn write_room(output: &mut [u8], sink: Sink, array: &[i32], room: Roo
     write_part(output, sink, &array[..length], room.first)
 }
 
+// Writes `number place points`.
+fn write_number(output: &mut [u8], number: u32, place: usize, points: usize, sink: Sink) -> Sink {
+    let numbered = writing::natural(output, sink, number as u64);
+    let placed = writing::natural(output, numbered, place as u64);
+    writing::natural(output, placed, points as u64)
+}
+
 // Writes `number place points corners`.
 pub(crate) fn write_counts(
     output: &mut [u8],
@@ -163,8 +170,21 @@ pub(crate) fn write_counts(
     corners: usize,
     sink: Sink,
 ) -> Sink {
-    let numbered = writing::natural(output, sink, number as u64);
-    let placed = writing::natural(output, numbered, place as u64);
-    let counted = writing::natural(output, placed, points as u64);
+    let counted = write_number(output, number, place, points, sink);
     writing::natural(output, counted, corners as u64)
+}
+
+// Answers `number place points ROOM'`, of a call with one room.
+pub(crate) fn write_points(
+    output: &mut [u8],
+    sink: Sink,
+    number: u32,
+    place: usize,
+    points: usize,
+    array: &[i32],
+    room: Room,
+) -> Sink {
+    let counted = write_number(output, number, place, points, sink);
+    let written = write_room(output, counted, array, room);
+    writing::line_end(output, written)
 }

@@ -23,7 +23,7 @@ fn later(a: u32, b: u32) -> u32
     a
 }
 
-fn greatest(corners: &[u32]) -> u32
+pub fn greatest(corners: &[u32]) -> u32
     requires { ⌜ 0 < length (now corners) ⌝ }
     ensures { λ r. ⌜ Greatest (now (corners .entry)) r ⌝ }
 {

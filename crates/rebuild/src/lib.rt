@@ -1,0 +1,336 @@
+// Rebuild: the way back, from corners and missing points to the points.
+ghost use mathlib.Core.Path.{_≡_};
+ghost use mathlib.Core.List.{map};
+ghost use Prim.Native.Nat.{_<_, _≤_, _/_};
+ghost use lib.ListN.{length};
+ghost use Rattle.lattice.specs.Point.{InRange, points, point, In, All};
+ghost use Rattle.lattice.specs.Hull.{CornerList};
+ghost use Rattle.lattice.specs.Refusal.{accepted, Misplaced, rebuildRows};
+ghost use Rattle.packed.specs.Packed.{Tells, side, cells, packed as packedOf, unpacked};
+ghost use Rattle.order.specs.Keys.{Below};
+ghost use Rattle.stretch.specs.Stretch.{StretchOf};
+ghost use Rattle.walk.specs.Walk.{Cornered, Walked, Greatest};
+ghost use Rattle.rebuild.specs.Rebuild.{inputRows, RebuildPromise};
+ghost use Rattle.rebuild.specs.Looking.{Taken, Behind, Resulting, Looks, FirstOutside, FirstStray, FirstMisplaced, Outlines, Follows};
+use stretch::Stretch;
+
+// What Rebuild answers: number and place, 0 and 0 if accepted, and how many points there are.
+pub struct Rebuilt {
+    pub number: u32,
+    pub place: usize,
+    pub points: usize,
+}
+
+const SIDE: u32 = 16384;
+
+// The point at a place of a list, packed.
+fn key_at(list: &[i32], i: usize) -> u32
+    requires { ⌜ (i < length (points (now list))) × InRange (point (points (now list)) i) ⌝ }
+    ensures { λ r. ⌜ (r ≡ packedOf (point (points (now (list .entry))) i)) × (r < cells) ⌝ }
+{
+    let x = list[2 * i];
+    let y = list[2 * i + 1];
+    packed::packed(x, y)
+}
+
+// The first point that is out of range; how many points there are if none is.
+fn first_outside(list: &[i32]) -> usize
+    ensures { λ r. ⌜ FirstOutside (now (list .entry)) r ⌝ }
+{
+    let n = list.len() / 2;
+    let mut i: usize = 0;
+    while i < n {
+        let x = list[2 * i];
+        let y = list[2 * i + 1];
+        if packed::in_range(x, y) {
+            i += 1;
+        } else {
+            return i;
+        }
+    }
+    i
+}
+
+// The corners, packed, in the order of their list.
+fn pack(corners: &[i32], outline: &mut [u32])
+    requires { ⌜ All InRange (points (now corners)) × (length (points (now corners)) ≤ length (now outline)) ⌝ }
+    ensures { λ _. ⌜ Outlines (points (now (corners .entry))) (now (outline .exit)) ⌝ }
+{
+    let n = corners.len() / 2;
+    let mut i: usize = 0;
+    while i < n {
+        outline[i] = key_at(corners, i);
+        i += 1;
+    }
+}
+
+// Whether a corner follows those before it: behind the first in row order, and from the third on to the left. Neighbours alone do not
+// tell: a star turns left at every corner.
+fn follows(outline: &[u32], i: usize) -> bool
+    requires { ⌜ Below (now outline) × (0 < i) × (i < length (now outline)) ⌝ }
+    ensures { λ r. ⌜ Tells r (Follows (now (outline .entry)) i) ⌝ }
+{
+    let first = outline[0];
+    let k = outline[i];
+    if k <= first {
+        return false;
+    }
+    if i < 2 {
+        return true;
+    }
+    let earlier = outline[i - 2];
+    let before = outline[i - 1];
+    if packed::left(first, before, k) {
+        return packed::left(earlier, before, k);
+    }
+    false
+}
+
+// Whether the corners are a corner list.
+fn is_corner_list(outline: &[u32]) -> bool
+    requires { ⌜ Below (now outline) ⌝ }
+    ensures { λ r. ⌜ Tells r (CornerList (map unpacked (now (outline .entry))) (map unpacked (now (outline .entry)))) ⌝ }
+{
+    let mut i: usize = 1;
+    while i < outline.len() {
+        if follows(outline, i) {
+            i += 1;
+        } else {
+            return false;
+        }
+    }
+    true
+}
+
+// The first missing point that does not follow the one before; how many there are if each does.
+fn first_stray(missing: &[i32]) -> usize
+    requires { ⌜ All InRange (points (now missing)) ⌝ }
+    ensures { λ r. ⌜ FirstStray (now (missing .entry)) r ⌝ }
+{
+    let n = missing.len() / 2;
+    let mut least: u32 = 0;
+    let mut i: usize = 0;
+    while i < n {
+        let k = key_at(missing, i);
+        if k < least {
+            return i;
+        }
+        least = k + 1;
+        i += 1;
+    }
+    i
+}
+
+// Whether a packed point is a corner.
+fn is_corner(outline: &[u32], k: u32) -> bool
+    ensures { λ r. ⌜ Tells r (In (unpacked k) (map unpacked (now (outline .entry)))) ⌝ }
+{
+    let mut i: usize = 0;
+    while i < outline.len() {
+        if outline[i] == k {
+            return true;
+        }
+        i += 1;
+    }
+    false
+}
+
+// The columns of row y that lie in the hull, where those of another row are known; rows before the first corner and behind the last have none.
+fn stretch_of(outline: &[u32], last: u32, known: u32, stretch: Stretch, y: u32) -> Stretch
+    requires { ⌜ Cornered (now outline) × Greatest (now outline) last × StretchOf (map unpacked (now outline)) known stretch × (y < side) ⌝ }
+    ensures { λ r. ⌜ StretchOf (map unpacked (now (outline .entry))) y r ⌝ }
+{
+    if y == known {
+        return stretch;
+    }
+    if y < outline[0] / SIDE {
+        return Stretch { from: 0, to: 0 };
+    }
+    if last / SIDE < y {
+        return Stretch { from: 0, to: 0 };
+    }
+    stretch::of_row(outline, last, y)
+}
+
+// Whether a packed point is outside the corners' hull, or is a corner: only the ends of a row's stretch can be one.
+fn is_misplaced(outline: &[u32], stretch: Stretch, k: u32) -> bool
+    requires { ⌜ Cornered (now outline) × StretchOf (map unpacked (now outline)) (k / side) stretch ⌝ }
+    ensures { λ r. ⌜ Tells r (Misplaced (map unpacked (now (outline .entry))) (unpacked k)) ⌝ }
+{
+    let x = k % SIDE;
+    if x < stretch.from {
+        return true;
+    }
+    if stretch.to <= x {
+        return true;
+    }
+    if x == stretch.from {
+        return is_corner(outline, k);
+    }
+    if x + 1 == stretch.to {
+        return is_corner(outline, k);
+    }
+    false
+}
+
+// The first missing point that is misplaced; how many there are if none is. Each row's stretch is looked for once.
+fn misplaced_by_rows(outline: &[u32], last: u32, missing: &[i32]) -> usize
+    requires { ⌜ Cornered (now outline) × Greatest (now outline) last × All InRange (points (now missing)) ⌝ }
+    ensures { λ r. ⌜ FirstMisplaced (now (outline .entry)) (now (missing .entry)) r ⌝ }
+{
+    let n = missing.len() / 2;
+    let mut y = outline[0] / SIDE;
+    let mut stretch = stretch::of_row(outline, last, y);
+    let mut i: usize = 0;
+    while i < n {
+        let k = key_at(missing, i);
+        stretch = stretch_of(outline, last, y, stretch, k / SIDE);
+        y = k / SIDE;
+        if is_misplaced(outline, stretch, k) {
+            return i;
+        }
+        i += 1;
+    }
+    i
+}
+
+// The first missing point that is outside the corners' hull or is a corner; how many there are if none is.
+fn first_misplaced(outline: &[u32], missing: &[i32]) -> usize
+    requires { ⌜ Cornered (now outline) × All InRange (points (now missing)) ⌝ }
+    ensures { λ r. ⌜ FirstMisplaced (now (outline .entry)) (now (missing .entry)) r ⌝ }
+{
+    if outline.len() == 0 {
+        return 0;
+    }
+    misplaced_by_rows(outline, walk::greatest(outline), missing)
+}
+
+fn declined(number: u32, place: usize) -> Rebuilt
+    ensures { λ r. ⌜ r ≡ record { number = number; place = place; points = 0 } ⌝ }
+{
+    Rebuilt {
+        number,
+        place,
+        points: 0,
+    }
+}
+
+// Refusals 1, 2 and 3 of both lists; number 0 if there is none.
+fn refusal_of_lists(corners: &[i32], missing: &[i32]) -> Rebuilt
+    ensures { λ r. ⌜ Looks (inputRows (now (corners .entry)) (now (missing .entry)) accepted) r ⌝ }
+{
+    if corners.len() % 2 == 1 {
+        return declined(1, 0);
+    }
+    if missing.len() % 2 == 1 {
+        return declined(1, 0);
+    }
+    let n = corners.len() / 2;
+    if packed::MOST < n {
+        return declined(2, 0);
+    }
+    let corner = first_outside(corners);
+    if corner < n {
+        return declined(3, corner);
+    }
+    let point = first_outside(missing);
+    if point < missing.len() / 2 {
+        return declined(3, point);
+    }
+    Rebuilt {
+        number: 0,
+        place: 0,
+        points: 0,
+    }
+}
+
+// Refusals 8, 9 and 10 of points in range; number 0 if there is none.
+fn refusal_of_points(outline: &[u32], missing: &[i32]) -> Rebuilt
+    requires { ⌜ Below (now outline) × All InRange (points (now missing)) ⌝ }
+    ensures { λ r. ⌜ Looks (rebuildRows (map unpacked (now (outline .entry))) (points (now (missing .entry))) accepted) r ⌝ }
+{
+    let n = missing.len() / 2;
+    if !is_corner_list(outline) {
+        return declined(8, 0);
+    }
+    let stray = first_stray(missing);
+    if stray < n {
+        return declined(9, stray);
+    }
+    let point = first_misplaced(outline, missing);
+    if point < n {
+        return declined(10, point);
+    }
+    Rebuilt {
+        number: 0,
+        place: 0,
+        points: 0,
+    }
+}
+
+// Refusals 11 and 12, or the points that result at the front of the room.
+fn result(outline: &[u32], missing: &[i32], room: &mut [i32]) -> Rebuilt
+    requires { ⌜ Walked (now outline) (now missing) ⌝ }
+    ensures { λ r. ⌜ Resulting (now (outline .entry)) (now (missing .entry)) (now (room .entry)) r (now (room .exit)) ⌝ }
+{
+    let count = walk::count(outline) - (missing.len() / 2) as u64;
+    if count > packed::MOST as u64 {
+        return declined(11, 0);
+    }
+    if count > (room.len() / 2) as u64 {
+        return declined(12, 0);
+    }
+    let points = walk::write(outline, missing, room);
+    Rebuilt {
+        number: 0,
+        place: 0,
+        points,
+    }
+}
+
+// Rebuild of lists that pass refusals 1 to 3, in working space that is lent.
+fn rebuild_in(corners: &[i32], missing: &[i32], room: &mut [i32], outline: &mut [u32]) -> Rebuilt
+    requires { ⌜ Taken (now corners) (now missing) × (length (points (now corners)) ≤ length (now outline)) ⌝ }
+    ensures { λ r. ⌜ Behind (now (corners .entry)) (now (missing .entry)) (now (room .entry)) r (now (room .exit)) ⌝ }
+{
+    pack(corners, outline);
+    let n = corners.len() / 2;
+    let found = refusal_of_points(&outline[..n], missing);
+    let number = found.number;
+    if number != 0 {
+        return found;
+    }
+    result(&outline[..n], missing, room)
+}
+
+// Rebuild with as much working space as the corners ask for: what a call zeroes is what it costs a small grain.
+fn rebuild_few(corners: &[i32], missing: &[i32], room: &mut [i32]) -> Rebuilt
+    requires { ⌜ Taken (now corners) (now missing) × (length (points (now corners)) ≤ 64) ⌝ }
+    ensures { λ r. ⌜ Behind (now (corners .entry)) (now (missing .entry)) (now (room .entry)) r (now (room .exit)) ⌝ }
+{
+    let mut outline = [0u32; 64];
+    rebuild_in(corners, missing, room, &mut outline)
+}
+
+fn rebuild_many(corners: &[i32], missing: &[i32], room: &mut [i32]) -> Rebuilt
+    requires { ⌜ Taken (now corners) (now missing) ⌝ }
+    ensures { λ r. ⌜ Behind (now (corners .entry)) (now (missing .entry)) (now (room .entry)) r (now (room .exit)) ⌝ }
+{
+    let mut outline = [0u32; 4096];
+    rebuild_in(corners, missing, room, &mut outline)
+}
+
+// The points of the corners' hull that are not missing, in row order at the front of the room.
+pub fn rebuild(corners: &[i32], missing: &[i32], room: &mut [i32]) -> Rebuilt
+    ensures { λ r. ⌜ RebuildPromise (now (corners .entry)) (now (missing .entry)) (now (room .entry)) r (now (room .exit)) ⌝ }
+{
+    let found = refusal_of_lists(corners, missing);
+    let number = found.number;
+    if number != 0 {
+        return found;
+    }
+    if corners.len() / 2 <= 64 {
+        return rebuild_few(corners, missing, room);
+    }
+    rebuild_many(corners, missing, room)
+}
