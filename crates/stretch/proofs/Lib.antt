@@ -1,3 +1,4 @@
 -- Laws of stretches.
 pub mod Counting
 pub mod Rowing
+pub mod Sides

@@ -97,7 +97,7 @@ module _ (corners : List ℕ) (last y : ℕ) (rowed : Rowed corners last y) wher
       let l = unpacked-before last (getD corners (r .0) 0) (subst (Before (unpacked last)) (r .2) b) in
       omega (arith, l, rowed .greatest (r .0) (r .1))
 
-  in-hull : (p : Point) → InHull (Of c) p ↔ InsideEnds c (unpacked last) p
+  pub in-hull : (p : Point) → InHull (Of c) p ↔ InsideEnds c (unpacked last) p
   in-hull = polygon-by-ends c (corner-list-shape c c (rowed .listed)) (unpacked last) last-in none-after
 
   module _ (i : ℕ) (upto : i ≤ length corners) (l : length corners ≤ i) where

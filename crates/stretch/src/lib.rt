@@ -1,15 +1,23 @@
 // Where a hull begins and ends in each row: what its edges leave of the row.
 ghost use mathlib.Core.Path.{_≡_};
 ghost use mathlib.Core.List.{map};
+ghost use lib.ListN.{length};
 ghost use Prim.Native.Nat.{_<_, _≤_, _+_, _*_, _/_};
 ghost use Rattle.lattice.specs.Point.{Before};
 ghost use Rattle.packed.specs.Packed.{side, cells, unpacked};
-ghost use Rattle.stretch.specs.Stretch.{cell, Columns, Keeps, LeftOf, Rowed, StretchOf};
+ghost use Rattle.stretch.specs.Stretch.{cell, Columns, Keeps, LeftOf, Rowed, StretchOf, Peaked, Tall, After as AfterOf, Rises, Falls, RisesFrom, FallsFrom};
 
 // Columns moved to start at 0, from `from` to below `to`.
 pub struct Stretch {
     pub from: u32,
     pub to: u32,
+}
+
+// The stretch of a row, and the places of the corners from which the edges go that cross it, one rising, one falling.
+pub struct Crossing {
+    pub stretch: Stretch,
+    pub rising: usize,
+    pub falling: usize,
 }
 
 const SIDE: u32 = 16384;
@@ -145,4 +153,102 @@ pub fn of_row(corners: &[u32], last: u32, y: u32) -> Stretch
         i += 1;
     }
     tidy(narrow(corners[i - 1], corners[0], y, left))
+}
+
+// The corner after that at a place; after the last comes the first.
+fn after(corners: &[u32], i: usize) -> u32
+    requires { ⌜ i < length (now corners) ⌝ }
+    ensures { λ r. ⌜ AfterOf (now (corners .entry)) i r ⌝ }
+{
+    if i + 1 < corners.len() {
+        return corners[i + 1];
+    }
+    corners[0]
+}
+
+// The rising edge that crosses row y: looked for from the one that crossed an earlier row, or else from the first, and from the second where
+// the first lies in its row.
+fn rising_from(corners: &[u32], peak: usize, y: u32, near: usize) -> usize
+    requires { ⌜ Peaked (now corners) peak y × Tall (now corners) peak ⌝ }
+    ensures { λ r. ⌜ RisesFrom (now (corners .entry)) peak y r ⌝ }
+{
+    if near < peak {
+        if corners[near] / SIDE < y {
+            return near;
+        }
+    }
+    if corners[0] / SIDE == corners[1] / SIDE {
+        return 1;
+    }
+    0
+}
+
+fn rising(corners: &[u32], peak: usize, y: u32, near: usize) -> usize
+    requires { ⌜ Peaked (now corners) peak y × Tall (now corners) peak ⌝ }
+    ensures { λ r. ⌜ Rises (now (corners .entry)) y r ⌝ }
+{
+    let mut i = rising_from(corners, peak, y, near);
+    while corners[i + 1] / SIDE < y {
+        i += 1;
+    }
+    i
+}
+
+// The falling edge, looked for from the one that crossed an earlier row, or else from the last.
+fn falling_from(corners: &[u32], peak: usize, y: u32, near: usize) -> usize
+    requires { ⌜ Peaked (now corners) peak y × Tall (now corners) peak ⌝ }
+    ensures { λ r. ⌜ FallsFrom (now (corners .entry)) peak y r ⌝ }
+{
+    if peak <= near {
+        if near < corners.len() - 1 {
+            if corners[near + 1] / SIDE < y {
+                return near;
+            }
+        }
+    }
+    corners.len() - 1
+}
+
+fn falling(corners: &[u32], peak: usize, y: u32, near: usize) -> usize
+    requires { ⌜ Peaked (now corners) peak y × Tall (now corners) peak ⌝ }
+    ensures { λ r. ⌜ Falls (now (corners .entry)) y r × (r < length (now (corners .entry))) ⌝ }
+{
+    let mut i = falling_from(corners, peak, y, near);
+    while corners[i] / SIDE < y {
+        i -= 1;
+    }
+    i
+}
+
+// What the two edges that cross row y leave of it.
+fn across(corners: &[u32], peak: usize, y: u32, rising: usize, falling: usize) -> Stretch
+    requires { ⌜ Peaked (now corners) peak y × Rises (now corners) y rising × Falls (now corners) y falling × (falling < length (now corners)) ⌝ }
+    ensures { λ r. ⌜ StretchOf (map unpacked (now (corners .entry))) y r ⌝ }
+{
+    let row = Stretch { from: 0, to: SIDE };
+    let ends = to_last(corners[peak], y, from_first(corners[0], y, row));
+    let left = narrow(corners[rising], corners[rising + 1], y, ends);
+    tidy(narrow(corners[falling], after(corners, falling), y, left))
+}
+
+// The columns of row y that lie in the hull, and the edges that cross it, to be handed on to the next row: so all rows together take as many
+// steps as there are rows and corners.
+pub fn of_next(corners: &[u32], peak: usize, y: u32, near: Crossing) -> Crossing
+    requires { ⌜ Peaked (now corners) peak y ⌝ }
+    ensures { λ r. ⌜ StretchOf (map unpacked (now (corners .entry))) y (r .stretch) ⌝ }
+{
+    if corners[0] / SIDE == corners[peak] / SIDE {
+        return Crossing {
+            stretch: of_row(corners, corners[peak], y),
+            rising: 0,
+            falling: 0,
+        };
+    }
+    let rising = rising(corners, peak, y, near.rising);
+    let falling = falling(corners, peak, y, near.falling);
+    Crossing {
+        stretch: across(corners, peak, y, rising, falling),
+        rising,
+        falling,
+    }
 }

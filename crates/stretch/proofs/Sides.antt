@@ -1,0 +1,316 @@
+-- Of all edges of a hull only two matter to a row: the rising one and the falling one that cross it. And where they are found. Assumes nothing.
+use mathlib.Core.Path.{_≡_, refl, sym, _∙_, ap, subst, subst₂}
+use mathlib.Core.Logic.{inl, inr, _↔_}
+use mathlib.Core.List.{List, [], _∷_, map}
+use Prim.Native.Nat.{ℕ, zero, suc, _+_, _-_, _/_, _%_, _≤_, _<_}
+use native.Mathlib.Numerals.{add-one}
+use native.Mathlib.Omega.{arith}
+use lib.ListN.{length, getD, length-map}
+use lib.IntN.{pos, _+ℤ_, _-ℤ_, _*ℤ_}
+use lib.Signed.{_≤ℤ_, _<ℤ_}
+use Rattle.whole.proofs.Whole.{ring, quote, NonNegative, Positive, gap≤, gap<, _⊞_, _⊠_, _⋆≡_, linear≤, linear<, linear⊥, le-or-lt, le-of-lt, nonnegative-factor, positive-factor, product-positive}
+use Rattle.lattice.specs.Point.{Point, point, In, Before}
+use Rattle.lattice.specs.Hull.{turn, InHull, member, Of}
+use Rattle.lattice.proofs.Lists.{either}
+use Rattle.lattice.proofs.Places.{lt-or-le, triples-place}
+use Rattle.lattice.proofs.Turn.{coordinates, Left}
+use Rattle.lattice.proofs.CornerLists.{corner-list-test}
+use Rattle.lattice.proofs.Polygon.{InsideEnds}
+use Rattle.packed.specs.Packed.{side, cells, placed, unpacked}
+use Rattle.packed.proofs.RowOrder.{unpacked-before, placed-order, order-placed, placed-grows}
+use Rattle.packed.proofs.KeyLaws.{unpacked-at, unpacked-in}
+use Rattle.stretch.specs.Stretch.{cell, Keeps, LeftOf, Rowed, StretchOf, Peaked, Tall, After, Rises, Falls, RisesFrom, FallsFrom}
+use Rattle.stretch.specs.declared.Stretch.{Stretch}
+use Rattle.stretch.proofs.Rowing.{whole, Between, in-hull}
+
+-- ---- an edge u v with a, b on its left, and p between their rows on the left of the way from a up to b, down to b
+-- where u v rises, p is on the left of u v as well
+module _ (u v a b p : Point) (on-a : NonNegative (turn u v a)) (on-b : NonNegative (turn u v b)) (on-p : NonNegative (turn a b p)) where
+  up-left : a .y <ℤ b .y → a .y ≤ℤ p .y → p .y ≤ℤ b .y → u .y ≤ℤ v .y → NonNegative (turn u v p)
+  up-left steep low high up =
+      nonnegative-factor (subst NonNegative (sym identity) (rest ⊠ on-a ⊞ passed ⊠ on-b ⊞ rise ⊠ on-p)) height
+    where
+      identity : (b .y -ℤ a .y) *ℤ turn u v p ≡ (b .y -ℤ p .y) *ℤ turn u v a +ℤ ((p .y -ℤ a .y) *ℤ turn u v b +ℤ (v .y -ℤ u .y) *ℤ turn a b p)
+      identity = ring (coordinates (u ∷ v ∷ a ∷ b ∷ p ∷ [])) (search quote depth 20) tt
+
+      height : Positive (b .y -ℤ a .y)
+      height = linear< (coordinates (a ∷ b ∷ [])) (gap< steep) (search quote depth 20) tt
+
+      rest : NonNegative (b .y -ℤ p .y)
+      rest = linear≤ (coordinates (b ∷ p ∷ [])) (gap≤ high) (search quote depth 20) tt
+
+      passed : NonNegative (p .y -ℤ a .y)
+      passed = linear≤ (coordinates (a ∷ p ∷ [])) (gap≤ low) (search quote depth 20) tt
+
+      rise : NonNegative (v .y -ℤ u .y)
+      rise = linear≤ (coordinates (u ∷ v ∷ [])) (gap≤ up) (search quote depth 20) tt
+
+  down-left : b .y <ℤ a .y → b .y ≤ℤ p .y → p .y ≤ℤ a .y → v .y ≤ℤ u .y → NonNegative (turn u v p)
+  down-left steep low high down =
+      nonnegative-factor (subst NonNegative (sym identity) (passed ⊠ on-a ⊞ rest ⊠ on-b ⊞ fall ⊠ on-p)) height
+    where
+      identity : (a .y -ℤ b .y) *ℤ turn u v p ≡ (p .y -ℤ b .y) *ℤ turn u v a +ℤ ((a .y -ℤ p .y) *ℤ turn u v b +ℤ (u .y -ℤ v .y) *ℤ turn a b p)
+      identity = ring (coordinates (u ∷ v ∷ a ∷ b ∷ p ∷ [])) (search quote depth 20) tt
+
+      height : Positive (a .y -ℤ b .y)
+      height = linear< (coordinates (a ∷ b ∷ [])) (gap< steep) (search quote depth 20) tt
+
+      rest : NonNegative (a .y -ℤ p .y)
+      rest = linear≤ (coordinates (a ∷ p ∷ [])) (gap≤ high) (search quote depth 20) tt
+
+      passed : NonNegative (p .y -ℤ b .y)
+      passed = linear≤ (coordinates (b ∷ p ∷ [])) (gap≤ low) (search quote depth 20) tt
+
+      fall : NonNegative (u .y -ℤ v .y)
+      fall = linear≤ (coordinates (u ∷ v ∷ [])) (gap≤ down) (search quote depth 20) tt
+
+-- ---- three corners of which two are in one row
+-- on the left of a way along the row is above it
+above : (a b p : Point) → a .y ≡ b .y → a .x <ℤ b .x → Left a b p → b .y <ℤ p .y
+above a b p e h l =
+    let w : Positive (b .x -ℤ a .x) = linear< (coordinates (a ∷ b ∷ [])) (gap< h) (search quote depth 20) tt in
+    let k : Positive ((b .x -ℤ a .x) *ℤ (p .y -ℤ a .y)) = subst Positive (ap (λ z. (b .x -ℤ a .x) *ℤ (p .y -ℤ a .y) -ℤ (z -ℤ a .y) *ℤ (p .x -ℤ a .x)) (sym e) ∙ ring (coordinates (a ∷ b ∷ p ∷ [])) (search quote depth 20) tt) l in
+    let r : Positive (p .y -ℤ a .y) = positive-factor k w in
+    linear< (coordinates (a ∷ b ∷ p ∷ [])) (gap< r ⊞ pos 1 ⋆≡ sym e) (search quote depth 20) tt
+
+-- what is on the left of a rising way is not to the right in its first row
+not-right : (a b p : Point) → a .y ≡ p .y → a .y <ℤ b .y → a .x <ℤ p .x → Left a b p → ⊥
+not-right a b p e h g l =
+    let w : Positive (b .y -ℤ a .y) = linear< (coordinates (a ∷ b ∷ [])) (gap< h) (search quote depth 20) tt in
+    let k : Positive (p .x -ℤ a .x) = linear< (coordinates (a ∷ p ∷ [])) (gap< g) (search quote depth 20) tt in
+    let r : Positive ((b .x -ℤ a .x) *ℤ (a .y -ℤ a .y) -ℤ (b .y -ℤ a .y) *ℤ (p .x -ℤ a .x)) =
+    subst (λ z. Positive ((b .x -ℤ a .x) *ℤ (z -ℤ a .y) -ℤ (b .y -ℤ a .y) *ℤ (p .x -ℤ a .x))) (sym e) l in
+    linear⊥ (coordinates (a ∷ b ∷ p ∷ [])) (gap< r ⊞ gap< (product-positive w k)) (search quote depth 20) tt
+
+-- ---- where the edges are found
+module _ (corners : List ℕ) (peak y : ℕ) (h : Peaked corners peak y) where
+  abbrev c : List Point
+  c = map unpacked corners
+
+  abbrev rowAt : ℕ → ℕ
+  rowAt i = getD corners i 0 / side
+
+  long : length c ≡ length corners
+  long = length-map corners unpacked
+
+  at : (i : ℕ) → i < length corners → point c i ≡ unpacked (getD corners i 0)
+  at i l = unpacked-at corners i l
+
+  -- the first corner is before each other
+  first-least : (i : ℕ) → suc i < length corners → getD corners 0 0 < getD corners (suc i) 0
+  first-least i l =
+      unpacked-before (getD corners 0 0) (getD corners (suc i) 0)
+      (subst₂ Before (at 0 (omega arith)) (at (suc i) l) (corner-list-test c .1 (h .listed) .first i (omega (arith, l, long))))
+
+  first-row : (i : ℕ) → i < length corners → rowAt 0 ≤ rowAt i
+  first-row zero l = omega arith
+  first-row (suc i) l = omega (arith, first-least i l)
+
+  left-of : (i j k : ℕ) → i < j → j < k → k < length corners → Left (unpacked (getD corners i 0)) (unpacked (getD corners j 0)) (unpacked (getD corners k 0))
+  left-of i j k u v l =
+      subst (λ p. Left p (unpacked (getD corners j 0)) (unpacked (getD corners k 0))) (at i (omega arith))
+      (subst (λ p. Left (point c i) p (unpacked (getD corners k 0))) (at j (omega arith))
+      (subst (λ p. Left (point c i) (point c j) p) (at k l) (triples-place Left c (h .listed .three) i j k u v (omega (arith, l, long)))))
+
+  module _ (t : Tall corners peak) where
+    later : 0 < peak
+    later = either (lt-or-le 0 peak) (λ l. l) (λ l. let e : peak ≡ 0 = omega arith in absurd (omega (arith, t, ap rowAt e)))
+
+    pub rising-near : (near : ℕ) → near < peak → rowAt near < y → RisesFrom corners peak y near
+    rising-near near l u = record { before = l; low = omega arith; steep = inl u }
+
+    pub rising-first : (rowAt 0 ≡ rowAt 1 → ⊥) → RisesFrom corners peak y 0
+    rising-first n = record {
+      before = later;
+      low = h .from-row;
+      steep = inr (either (lt-or-le (rowAt 0) (rowAt 1)) (λ l. l)
+          (λ l. absurd (n (omega (arith, l, first-row 1 (omega (arith, later, h .peaks .inside)))))));
+    }
+
+    pub two-corners : 1 < length corners
+    two-corners = omega (arith, later, h .peaks .inside)
+
+    pub rising-second : rowAt 0 ≡ rowAt 1 → RisesFrom corners peak y 1
+    rising-second e = record { before = second; low = omega (arith, e, h .from-row); steep = inr rises }
+      where
+        second : 1 < peak
+        second =
+            either (lt-or-le 1 peak) (λ l. l) (λ l. let d : peak ≡ 1 = omega (arith, later) in absurd (omega (arith, t, e, ap rowAt d)))
+
+        rises : rowAt 1 < rowAt 2
+        rises =
+            let l : 2 < length corners = omega (arith, second, h .peaks .inside) in
+            order-placed (rowAt 1) (rowAt 2)
+            (above (unpacked (getD corners 0 0)) (unpacked (getD corners 1 0)) (unpacked (getD corners 2 0)) (ap placed e)
+            (placed-order (getD corners 0 0 % side) (getD corners 1 0 % side) (omega (arith, e, first-least 0 two-corners))) (left-of 0 1 2 (omega arith) (omega arith) l))
+
+    pub falling-near : (near : ℕ) → peak ≤ near → suc near < length corners → rowAt (suc near) < y → FallsFrom corners peak y near
+    falling-near near p l u = record { before = p; end = getD corners (suc near) 0; after = inl (l, refl); low = omega arith; steep = inl u }
+
+    pub falling-last : FallsFrom corners peak y (length corners - 1)
+    falling-last = record {
+      before = omega (arith, h .peaks .inside);
+      end = getD corners 0 0;
+      after = inr (omega (arith, h .peaks .inside), refl);
+      low = h .from-row;
+      steep = inr (either (lt-or-le (rowAt 0) (rowAt (length corners - 1))) (λ l. l) (λ l. absurd (falls l)));
+    }
+      where
+        falls : rowAt (length corners - 1) ≤ rowAt 0 → ⊥
+        falls l =
+            let k = length corners - 1 in
+            let e : rowAt 0 ≡ rowAt k = omega (arith, l, first-row k (omega (arith, h .peaks .inside))) in
+            either (lt-or-le peak k)
+            (λ m. let d : suc (k - 1) ≡ k = omega (arith, m) in
+            not-right (unpacked (getD corners 0 0)) (unpacked (getD corners peak 0)) (unpacked (getD corners k 0)) (ap placed e)
+            (placed-order (rowAt 0) (rowAt peak) t)
+            (placed-order (getD corners 0 0 % side) (getD corners k 0 % side)
+            (omega (arith, e, subst (λ n. getD corners 0 0 < getD corners n 0) d (first-least (k - 1) (omega (arith, m, two-corners))))))
+            (left-of 0 peak k later m (omega (arith, two-corners))))
+            (λ m. let d : peak ≡ k = omega (arith, m, h .peaks .inside) in omega (arith, t, e, ap rowAt d))
+
+  -- ---- one step further
+  module _ (i : ℕ) where
+    next : suc i ≡ i + 1
+    next = sym (add-one i)
+
+    pub rises-on : RisesFrom corners peak y i → rowAt (i + 1) < y → RisesFrom corners peak y (i + 1)
+    rises-on r u = record {
+      before = either (lt-or-le (i + 1) peak) (λ l. l)
+          (λ l. let e : i + 1 ≡ peak = omega (arith, l, r .before) in absurd (omega (arith, u, h .to-row, ap rowAt e)));
+      low = omega arith;
+      steep = inl u;
+    }
+
+    pub rises-here : RisesFrom corners peak y i → y ≤ rowAt (i + 1) → Rises corners y i
+    rises-here r v = let u : y ≤ rowAt (suc i) = subst (λ n. y ≤ rowAt n) (sym next) v in record {
+      inside = omega (arith, r .before, h .peaks .inside);
+      low = r .low;
+      high = u;
+      steep = either (r .steep) (λ l. omega (arith, l, u)) (λ l. l);
+    }
+
+    pub falls-past : FallsFrom corners peak y i → rowAt i < y → peak < i
+    falls-past r u =
+        either (lt-or-le peak i) (λ l. l) (λ l. let e : peak ≡ i = omega (arith, l, r .before) in absurd (omega (arith, u, h .to-row, ap rowAt e)))
+
+    pub falls-on : FallsFrom corners peak y i → rowAt i < y → FallsFrom corners peak y (i - 1)
+    falls-on r u = let e : suc (i - 1) ≡ i = omega (arith, falls-past r u) in record {
+      before = omega (arith, falls-past r u);
+      end = getD corners i 0;
+      after = inl (either (r .after) (λ l. omega (arith, l .0, falls-past r u)) (λ l. omega (arith, l .0, falls-past r u)), ap (λ n. getD corners n 0) (sym e));
+      low = omega arith;
+      steep = inl u;
+    }
+
+    pub falls-here : FallsFrom corners peak y i → y ≤ rowAt i → Falls corners y i
+    falls-here r u = record { end = r .end; after = r .after; high = u; low = r .low; steep = either (r .steep) (λ l. omega (arith, l, u)) (λ l. l) }
+
+    pub falls-inside : FallsFrom corners peak y i → i < length corners
+    falls-inside r = either (r .after) (λ l. omega (arith, l .0)) (λ l. omega (arith, l .0))
+
+-- ---- what the two edges leave of a row
+placed-le : (m n : ℕ) → m ≤ n → placed m ≤ℤ placed n
+placed-le m n h = linear≤ (placed m ∷ placed n ∷ []) (placed-grows m n h) (search quote depth 20) tt
+
+module _ (corners : List ℕ) (peak y : ℕ) (h : Peaked corners peak y) where
+  abbrev last : ℕ
+  last = getD corners peak 0
+
+  pub peaked-rowed : Rowed corners last y
+  peaked-rowed = record {
+    some = omega (arith, h .peaks .inside);
+    below = h .below;
+    listed = h .listed;
+    greatest = h .peaks .greatest;
+    held = (peak, h .peaks .inside, refl);
+    from-row = h .from-row;
+    to-row = h .to-row;
+  }
+
+  inside : (p : Point) → InHull (Of (map unpacked corners)) p ↔ InsideEnds (map unpacked corners) (unpacked last) p
+  inside = in-hull corners last y peaked-rowed
+
+  module _ (i : ℕ) (r : Rises corners y i) (j : ℕ) (f : Falls corners y j) (l : j < length corners) where
+    -- the ends of the two edges
+    a : Point
+    a = unpacked (getD corners i 0)
+
+    b : Point
+    b = unpacked (getD corners (suc i) 0)
+
+    d : Point
+    d = unpacked (getD corners j 0)
+
+    e : Point
+    e = unpacked (f .end)
+
+    end-in : In e (map unpacked corners)
+    unfolding e
+    end-in = either (f .after)
+        (λ k. subst (λ n. In (unpacked n) (map unpacked corners)) (sym (k .1)) (unpacked-in corners (suc j) (k .0)))
+        (λ k. subst (λ n. In (unpacked n) (map unpacked corners)) (sym (k .1)) (unpacked-in corners 0 (omega (arith, l))))
+
+    -- on the left of both, so of every edge
+    left-of-all : (u v : Point) → ((q : Point) → In q (map unpacked corners) → NonNegative (turn u v q)) → (x : ℕ)
+        → LeftOf (getD corners i 0) (getD corners (suc i) 0) y x → LeftOf (getD corners j 0) (f .end) y x → NonNegative (turn u v (cell x y))
+    unfolding a b d e
+    left-of-all u v on x up down =
+        either (le-or-lt (u .y) (v .y))
+        (λ k. up-left u v a b (cell x y) (on a (unpacked-in corners i (omega (arith, r .inside)))) (on b (unpacked-in corners (suc i) (r .inside))) up
+        (placed-order (getD corners i 0 / side) (getD corners (suc i) 0 / side) (r .steep)) (placed-le (getD corners i 0 / side) y (r .low))
+        (placed-le y (getD corners (suc i) 0 / side) (r .high)) k)
+        (λ k. down-left u v d e (cell x y) (on d (unpacked-in corners j l)) (on e end-in) down
+        (placed-order (f .end / side) (getD corners j 0 / side) (f .steep)) (placed-le (f .end / side) y (f .low))
+        (placed-le y (getD corners j 0 / side) (f .high)) (le-of-lt k))
+
+    inside-ends : (x : ℕ) → Between corners last y x → LeftOf (getD corners i 0) (getD corners (suc i) 0) y x → LeftOf (getD corners j 0) (f .end) y x
+        → InsideEnds (map unpacked corners) (unpacked last) (cell x y)
+    inside-ends x between up down = record {
+      edges = λ k u. left-of-all (point (map unpacked corners) k) (point (map unpacked corners) (suc k)) (λ q m. inside q .0 (member m) .edges k u) x up down;
+      closing = λ k u. left-of-all (point (map unpacked corners) k) (point (map unpacked corners) 0) (λ q m. inside q .0 (member m) .closing k u) x up down;
+      from-first = λ u. between .0 (subst (Before (cell x y)) (unpacked-at corners 0 (omega (arith, l))) u);
+      to-last = between .1;
+    }
+
+    ends-inside : (x : ℕ) → InsideEnds (map unpacked corners) (unpacked last) (cell x y)
+        → Between corners last y x × LeftOf (getD corners i 0) (getD corners (suc i) 0) y x × LeftOf (getD corners j 0) (f .end) y x
+    ends-inside x s = (
+      ((λ u. s .from-first (subst (Before (cell x y)) (sym (unpacked-at corners 0 (omega (arith, l)))) u)), s .to-last),
+      subst₂ (λ p q. NonNegative (turn p q (cell x y))) (unpacked-at corners i (omega (arith, r .inside))) (unpacked-at corners (suc i) (r .inside))
+          (s .edges i (omega (arith, r .inside, length-map corners unpacked))),
+      either (f .after)
+          (λ k. subst₂ (λ p q. NonNegative (turn p q (cell x y))) (unpacked-at corners j l) (unpacked-at corners (suc j) (k .0) ∙ ap unpacked (sym (k .1)))
+          (s .edges j (omega (arith, k .0, length-map corners unpacked))))
+          (λ k. subst₂ (λ p q. NonNegative (turn p q (cell x y))) (unpacked-at corners j l) (unpacked-at corners 0 (omega (arith, l)) ∙ ap unpacked (sym (k .1)))
+          (s .closing j (omega (arith, k .0, length-map corners unpacked)))),
+    )
+
+    pub crossed : (s ends left closed t : Stretch) → Keeps (λ x. Before (cell x y) (unpacked (getD corners 0 0)) → ⊥) whole s
+        → Keeps (λ x. Before (unpacked last) (cell x y) → ⊥) s ends → Keeps (LeftOf (getD corners i 0) (getD corners (suc i) 0) y) ends left
+        → (end : ℕ) → end ≡ f .end → Keeps (LeftOf (getD corners j 0) end y) left closed → (t .from ≤ t .to) × Keeps (λ x. Unit {0}) closed t
+        → StretchOf (map unpacked corners) y t
+    crossed s ends left closed t k₁ k₂ k₃ end q k₄ k₅ = record {
+      rising = k₅ .0;
+      few = k₅ .1 .few;
+      inside = λ x w.
+          let u₄ = k₄ .kept x (k₅ .1 .kept x w .0) in
+          let u₃ = k₃ .kept x (u₄ .0) in
+          let u₂ = k₂ .kept x (u₃ .0) in
+          let u₁ = k₁ .kept x (u₂ .0) in
+          inside (cell x y) .1 (inside-ends x (u₁ .1, u₂ .1) (u₃ .1) (subst (λ n. LeftOf (getD corners j 0) n y x) q (u₄ .1)));
+      all = λ x n m.
+          let v = ends-inside x (inside (cell x y) .0 m) in
+          k₅ .1 .all x (k₄ .all x (k₃ .all x (k₂ .all x (k₁ .all x (record { from = omega arith; to = n }) (v .0 .0)) (v .0 .1)) (v .1))
+          (subst (λ n. LeftOf (getD corners j 0) n y x) (sym q) (v .2))) tt;
+    }
+
+pub after-same : (corners : List ℕ) (i r s : ℕ) → After corners i r → After corners i s → r ≡ s
+after-same corners i r s (inl h) (inl g) = h .1 ∙ sym (g .1)
+after-same corners i r s (inl h) (inr g) = absurd (omega (arith, h .0, g .0))
+after-same corners i r s (inr h) (inl g) = absurd (omega (arith, h .0, g .0))
+after-same corners i r s (inr h) (inr g) = h .1 ∙ sym (g .1)
+
+pub after-below : (corners : List ℕ) (i r : ℕ) → ((j : ℕ) → j < length corners → getD corners j 0 < cells) → After corners i r → r < cells
+after-below corners i r f (inl h) = subst (λ n. n < cells) (sym (h .1)) (f (suc i) (h .0))
+after-below corners i r f (inr h) = subst (λ n. n < cells) (sym (h .1)) (f 0 (omega (arith, h .0)))

@@ -1,0 +1,63 @@
+-- `stretch::rising` meets its contract: a turn of the loop goes one edge on. Assumes nothing.
+use Rattle.stretch.proofs.rising.Statement.{statement}
+use Rattle.stretch.proofs.rising.Tie as tie
+use native.Mathlib.Omega.{arith}
+use denote.Ref.{now}
+use lib.ListN.{length}
+use Prim.Native.Nat.{_-_, _+_, _<_}
+use Rattle.stretch.specs.Stretch.{RisesFrom}
+use Rattle.stretch.proofs.Sides.{rises-on, rises-here}
+
+abbrev Inv-loop : tie.InvT-loop
+Inv-loop corners peak y near i₀ i = RisesFrom corners peak y i
+
+abbrev μ-loop : tie.MeasureT-loop
+μ-loop corners peak y near i₀ i = peak - i
+
+rising-from-requires : tie.Need-rising-from-requires Inv-loop μ-loop
+rising-from-requires c κs = c .before .pre
+
+loop-holds : tie.Need-loop-holds Inv-loop μ-loop
+loop-holds c = c .rising-from .ensures
+
+inside : (c : tie.At-loop Inv-loop μ-loop) → c .loop .i + 1 < length (now (c .before .before .before .args .corners))
+inside c = omega (arith, c .loop .inv .before, c .before .before .before .pre .0 .peaks .inside)
+
+add-if1 : tie.Need-add-if1 Inv-loop μ-loop
+add-if1 c = omega (arith, inside c)
+
+mul-if1 : tie.Need-mul-if1 Inv-loop μ-loop
+mul-if1 c = omega (arith, inside c)
+
+shared-slice-read-if1 : tie.Need-shared-slice-read-if1 Inv-loop μ-loop
+shared-slice-read-if1 c = inside (c .before)
+
+add-i : tie.Need-add-i Inv-loop μ-loop
+add-i c = omega (arith, inside (c .before .before))
+
+loop-less : tie.Need-loop-less Inv-loop μ-loop
+loop-less c = omega (arith, c .before .before .loop .inv .before)
+
+loop-again : tie.Need-loop-again Inv-loop μ-loop
+loop-again c = let l = c .before .before in
+    rises-on _ _ _ (l .before .before .before .pre .0) _ (l .loop .inv) (c .if1 .taken)
+
+returns : tie.Need-returns Inv-loop μ-loop
+returns c = let l = c .before .before in
+    rises-here _ _ _ (l .before .before .before .pre .0) _ (l .loop .inv) (c .if1 .left)
+
+pub rising-spec : {M : Type 1} → statement M
+rising-spec =
+    tie.close
+    (tie.spec
+    Inv-loop
+    μ-loop
+    rising-from-requires
+    loop-holds
+    add-if1
+    mul-if1
+    shared-slice-read-if1
+    add-i
+    loop-less
+    loop-again
+    returns)
