@@ -19,11 +19,11 @@ use Rattle.packed.specs.Packed.{Tells, side, placed, unpacked}
 use Rattle.packed.proofs.RowOrder.{placed-order, placed-grows, unpacked-injective}
 use Rattle.packed.proofs.KeyLaws.{unpacked-in, in-unpacked}
 use Rattle.packed.proofs.Tests.{tells-as}
-use Rattle.stretch.specs.Stretch.{cell, Within, Rowed, StretchOf}
+use Rattle.stretch.specs.Stretch.{cell, Within, Peak, Peaked, StretchOf}
 use Rattle.stretch.specs.declared.Stretch.{Stretch}
 use Rattle.stretch.proofs.Counting.{is-cell-before, is-before-cell}
-use Rattle.walk.specs.Walk.{Cornered, Greatest}
-use Rattle.walk.proofs.Walking.{nothing, rowed, in-rows}
+use Rattle.walk.specs.Walk.{Cornered}
+use Rattle.walk.proofs.Walking.{nothing, firstRow, lastRow, some, peaked, in-rows}
 use Rattle.rebuild.specs.Looking.{FirstBelow}
 use Rattle.rebuild.proofs.Passing.{Passing}
 
@@ -57,22 +57,19 @@ empty-row c y outside = record {
     never : (x : ℕ) → Within none x → ⊥
     never x w = omega (arith, w .to)
 
-module _ (outline : List ℕ) (h : Cornered outline) (last : ℕ) (g : Greatest outline last) where
-  some : 0 < length outline
-  some = omega (arith, g .held .1)
+module _ (outline : List ℕ) (h : Cornered outline) (peak : ℕ) (g : Peak outline peak) where
+  pub first-row : Peaked outline peak (firstRow outline)
+  first-row = peaked outline h peak g (firstRow outline) (omega arith) (omega (arith, g .greatest 0 (some outline h peak g)))
 
-  pub first-row : Rowed outline last (getD outline 0 0 / side)
-  first-row = rowed outline h some last g (getD outline 0 0 / side) (omega arith) (omega (arith, g .greatest 0 some))
-
-  pub row-before : (y : ℕ) → y < getD outline 0 0 / side → StretchOf (map unpacked outline) y none
+  pub row-before : (y : ℕ) → y < firstRow outline → StretchOf (map unpacked outline) y none
   row-before y l = empty-row (map unpacked outline) y (λ x m.
-      linear⊥ (placed y ∷ placed (getD outline 0 0 / side) ∷ [])
-      (gap≤ (in-rows outline h some last g (cell x y) m .0) ⊞ gap< (placed-order y (getD outline 0 0 / side) l)) (search quote depth 20) tt)
+      linear⊥ (placed y ∷ placed (firstRow outline) ∷ [])
+      (gap≤ (in-rows outline h peak g (cell x y) m .0) ⊞ gap< (placed-order y (firstRow outline) l)) (search quote depth 20) tt)
 
-  pub row-behind : (y : ℕ) → last / side < y → StretchOf (map unpacked outline) y none
+  pub row-behind : (y : ℕ) → lastRow outline peak < y → StretchOf (map unpacked outline) y none
   row-behind y l = empty-row (map unpacked outline) y (λ x m.
-      linear⊥ (placed y ∷ placed (last / side + 1) ∷ [])
-      (gap< (in-rows outline h some last g (cell x y) m .1) ⊞ placed-grows (last / side + 1) y (omega arith)) (search quote depth 20) tt)
+      linear⊥ (placed y ∷ placed (lastRow outline peak + 1) ∷ [])
+      (gap< (in-rows outline h peak g (cell x y) m .1) ⊞ placed-grows (lastRow outline peak + 1) y (omega arith)) (search quote depth 20) tt)
 
 -- ---- a point of a row whose stretch is known
 module _ (outline : List ℕ) (h : Cornered outline) (k : ℕ) (s : Stretch) (t : StretchOf (map unpacked outline) (k / side) s) where

@@ -8,10 +8,11 @@ ghost use Rattle.lattice.specs.Hull.{CornerList};
 ghost use Rattle.lattice.specs.Refusal.{accepted, Misplaced, rebuildRows};
 ghost use Rattle.packed.specs.Packed.{Tells, side, cells, packed as packedOf, unpacked};
 ghost use Rattle.order.specs.Keys.{Below};
-ghost use Rattle.stretch.specs.Stretch.{StretchOf};
-ghost use Rattle.walk.specs.Walk.{Cornered, Walked, Greatest};
+ghost use Rattle.stretch.specs.Stretch.{StretchOf, Peak};
+ghost use Rattle.walk.specs.Walk.{Cornered, Walked};
 ghost use Rattle.rebuild.specs.Rebuild.{inputRows, RebuildPromise};
 ghost use Rattle.rebuild.specs.Looking.{Taken, Behind, Resulting, Looks, FirstOutside, FirstStray, FirstMisplaced, Outlines, Follows};
+use stretch::Crossing;
 use stretch::Stretch;
 
 // What Rebuild answers: number and place, 0 and 0 if accepted, and how many points there are.
@@ -136,20 +137,20 @@ fn is_corner(outline: &[u32], k: u32) -> bool
 }
 
 // The columns of row y that lie in the hull, where those of another row are known; rows before the first corner and behind the last have none.
-fn stretch_of(outline: &[u32], last: u32, known: u32, stretch: Stretch, y: u32) -> Stretch
-    requires { ⌜ Cornered (now outline) × Greatest (now outline) last × StretchOf (map unpacked (now outline)) known stretch × (y < side) ⌝ }
-    ensures { λ r. ⌜ StretchOf (map unpacked (now (outline .entry))) y r ⌝ }
+fn stretch_of(outline: &[u32], peak: usize, known: u32, crossing: Crossing, y: u32) -> Crossing
+    requires { ⌜ Cornered (now outline) × Peak (now outline) peak × StretchOf (map unpacked (now outline)) known (crossing .stretch) × (y < side) ⌝ }
+    ensures { λ r. ⌜ StretchOf (map unpacked (now (outline .entry))) y (r .stretch) ⌝ }
 {
     if y == known {
-        return stretch;
+        return crossing;
     }
     if y < outline[0] / SIDE {
-        return Stretch { from: 0, to: 0 };
+        return stretch::start();
     }
-    if last / SIDE < y {
-        return Stretch { from: 0, to: 0 };
+    if outline[peak] / SIDE < y {
+        return stretch::start();
     }
-    stretch::of_row(outline, last, y)
+    stretch::of_next(outline, peak, y, crossing)
 }
 
 // Whether a packed point is outside the corners' hull, or is a corner: only the ends of a row's stretch can be one.
@@ -174,19 +175,19 @@ fn is_misplaced(outline: &[u32], stretch: Stretch, k: u32) -> bool
 }
 
 // The first missing point that is misplaced; how many there are if none is. Each row's stretch is looked for once.
-fn misplaced_by_rows(outline: &[u32], last: u32, missing: &[i32]) -> usize
-    requires { ⌜ Cornered (now outline) × Greatest (now outline) last × All InRange (points (now missing)) ⌝ }
+fn misplaced_by_rows(outline: &[u32], peak: usize, missing: &[i32]) -> usize
+    requires { ⌜ Cornered (now outline) × Peak (now outline) peak × All InRange (points (now missing)) ⌝ }
     ensures { λ r. ⌜ FirstMisplaced (now (outline .entry)) (now (missing .entry)) r ⌝ }
 {
     let n = missing.len() / 2;
     let mut y = outline[0] / SIDE;
-    let mut stretch = stretch::of_row(outline, last, y);
+    let mut crossing = stretch::of_next(outline, peak, y, stretch::start());
     let mut i: usize = 0;
     while i < n {
         let k = key_at(missing, i);
-        stretch = stretch_of(outline, last, y, stretch, k / SIDE);
+        crossing = stretch_of(outline, peak, y, crossing, k / SIDE);
         y = k / SIDE;
-        if is_misplaced(outline, stretch, k) {
+        if is_misplaced(outline, crossing.stretch, k) {
             return i;
         }
         i += 1;
@@ -202,7 +203,7 @@ fn first_misplaced(outline: &[u32], missing: &[i32]) -> usize
     if outline.len() == 0 {
         return 0;
     }
-    misplaced_by_rows(outline, walk::greatest(outline), missing)
+    misplaced_by_rows(outline, walk::peak(outline), missing)
 }
 
 fn declined(number: u32, place: usize) -> Rebuilt

@@ -8,7 +8,7 @@ use native.Mathlib.Omega.{arith}
 use lib.ListN.{length, getD, length-map}
 use lib.IntN.{pos, _+ℤ_, _-ℤ_, _*ℤ_}
 use lib.Signed.{_≤ℤ_, _<ℤ_}
-use Rattle.whole.proofs.Whole.{ring, quote, NonNegative, Positive, gap≤, gap<, _⊞_, _⊠_, _⋆≡_, linear≤, linear<, linear⊥, le-or-lt, le-of-lt, nonnegative-factor, positive-factor, product-positive}
+use Rattle.whole.proofs.Whole.{ring, quote, NonNegative, Positive, gap≤, gap<, _⊞_, _⊠_, _⋆≡_, natural, linear≤, linear<, linear⊥, le-or-lt, le-of-lt, nonnegative-factor, positive-factor, product-positive}
 use Rattle.lattice.specs.Point.{Point, point, In, Before}
 use Rattle.lattice.specs.Hull.{turn, InHull, member, Of}
 use Rattle.lattice.proofs.Lists.{either}
@@ -19,7 +19,7 @@ use Rattle.lattice.proofs.Polygon.{InsideEnds}
 use Rattle.packed.specs.Packed.{side, cells, placed, unpacked}
 use Rattle.packed.proofs.RowOrder.{unpacked-before, placed-order, order-placed, placed-grows}
 use Rattle.packed.proofs.KeyLaws.{unpacked-at, unpacked-in}
-use Rattle.stretch.specs.Stretch.{cell, Keeps, LeftOf, Rowed, StretchOf, Peaked, Tall, After, Rises, Falls, RisesFrom, FallsFrom}
+use Rattle.stretch.specs.Stretch.{cell, Keeps, LeftOf, StretchOf, Peaked, Tall, After, Rises, Falls, RisesFrom, FallsFrom}
 use Rattle.stretch.specs.declared.Stretch.{Stretch}
 use Rattle.stretch.proofs.Rowing.{whole, Between, in-hull}
 
@@ -213,23 +213,51 @@ module _ (corners : List ℕ) (peak y : ℕ) (h : Peaked corners peak y) where
 placed-le : (m n : ℕ) → m ≤ n → placed m ≤ℤ placed n
 placed-le m n h = linear≤ (placed m ∷ placed n ∷ []) (placed-grows m n h) (search quote depth 20) tt
 
+-- along one row nothing turns
+no-turn : (a b p : Point) → a .y ≡ p .y → b .y ≡ p .y → NonNegative (turn a b p)
+no-turn a b p e f =
+    subst (λ z. NonNegative ((b .x -ℤ a .x) *ℤ (p .y -ℤ z) -ℤ (b .y -ℤ z) *ℤ (p .x -ℤ a .x))) (sym e)
+    (subst (λ z. NonNegative ((b .x -ℤ a .x) *ℤ (p .y -ℤ p .y) -ℤ (z -ℤ p .y) *ℤ (p .x -ℤ a .x))) (sym f)
+    (linear≤ (coordinates (a ∷ b ∷ p ∷ [])) (natural 0) (search quote depth 20) tt))
+
 module _ (corners : List ℕ) (peak y : ℕ) (h : Peaked corners peak y) where
   abbrev last : ℕ
   last = getD corners peak 0
 
-  pub peaked-rowed : Rowed corners last y
-  peaked-rowed = record {
-    some = omega (arith, h .peaks .inside);
-    below = h .below;
-    listed = h .listed;
-    greatest = h .peaks .greatest;
-    held = (peak, h .peaks .inside, refl);
-    from-row = h .from-row;
-    to-row = h .to-row;
-  }
-
   inside : (p : Point) → InHull (Of (map unpacked corners)) p ↔ InsideEnds (map unpacked corners) (unpacked last) p
-  inside = in-hull corners last y peaked-rowed
+  inside = in-hull corners peak y h
+
+  -- a hull of one row
+  module _ (n : Tall corners peak → ⊥) where
+    in-row : (i : ℕ) → i < length corners → (point (map unpacked corners) i) .y ≡ placed y
+    in-row i l =
+        let e : getD corners i 0 / side ≡ y = omega (arith, l, first-row corners peak y h i l, h .peaks .greatest i l, h .from-row, h .to-row, not-lt n) in
+        ap (λ p. p .y) (unpacked-at corners i l) ∙ ap placed e
+      where
+        not-lt : {a b : ℕ} → (a < b → ⊥) → b ≤ a
+        not-lt f = omega (arith, f)
+
+    flat-ends : (x : ℕ) → Between corners last y x → InsideEnds (map unpacked corners) (unpacked last) (cell x y)
+    flat-ends x between = record {
+      edges = λ k u. no-turn (point (map unpacked corners) k) (point (map unpacked corners) (suc k)) (cell x y)
+          (in-row k (omega (arith, u, length-map corners unpacked))) (in-row (suc k) (omega (arith, u, length-map corners unpacked)));
+      closing = λ k u. no-turn (point (map unpacked corners) k) (point (map unpacked corners) 0) (cell x y)
+          (in-row k (omega (arith, u, length-map corners unpacked))) (in-row 0 (omega (arith, h .peaks .inside)));
+      from-first = λ u. between .0 (subst (Before (cell x y)) (unpacked-at corners 0 (omega (arith, h .peaks .inside))) u);
+      to-last = between .1;
+    }
+
+    pub flat : (s ends t : Stretch) → Keeps (λ x. Before (cell x y) (unpacked (getD corners 0 0)) → ⊥) whole s
+        → Keeps (λ x. Before (unpacked last) (cell x y) → ⊥) s ends → (t .from ≤ t .to) × Keeps (λ x. Unit {0}) ends t
+        → StretchOf (map unpacked corners) y t
+    flat s ends t k₁ k₂ k₃ = record {
+      rising = k₃ .0;
+      few = k₃ .1 .few;
+      inside = λ x w. let u₂ = k₂ .kept x (k₃ .1 .kept x w .0) in let u₁ = k₁ .kept x (u₂ .0) in inside (cell x y) .1 (flat-ends x (u₁ .1, u₂ .1));
+      all = λ x m i. let v = inside (cell x y) .0 i in
+          k₃ .1 .all x (k₂ .all x (k₁ .all x (record { from = omega arith; to = m })
+          (λ u. v .from-first (subst (Before (cell x y)) (sym (unpacked-at corners 0 (omega (arith, h .peaks .inside)))) u))) (v .to-last)) tt;
+    }
 
   module _ (i : ℕ) (r : Rises corners y i) (j : ℕ) (f : Falls corners y j) (l : j < length corners) where
     -- the ends of the two edges

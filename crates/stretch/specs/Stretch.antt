@@ -36,16 +36,6 @@ pub record Keeps (P : ℕ → Type 0) (s r : Stretch) : Type 0 where
 abbrev pub LeftOf : ℕ → ℕ → ℕ → ℕ → Type 0
 LeftOf a b y x = pos 0 ≤ℤ turn (unpacked a) (unpacked b) (cell x y)
 
--- corners as packed points, the last of them in row order, and a row between the first and the last
-pub record Rowed (corners : List ℕ) (last y : ℕ) : Type 0 where
-  pub some : 0 < length corners
-  pub below : (i : ℕ) → i < length corners → getD corners i 0 < cells
-  pub listed : CornerList (map unpacked corners) (map unpacked corners)
-  pub greatest : (i : ℕ) → i < length corners → getD corners i 0 ≤ last
-  pub held : (i : ℕ) × (i < length corners) × (getD corners i 0 ≡ last)
-  pub from-row : getD corners 0 0 / side ≤ y
-  pub to-row : y ≤ last / side
-
 -- the stretch has exactly the columns in which row y has a point of the hull of c
 pub record StretchOf (c : List Point) (y : ℕ) (s : Stretch) : Type 0 where
   pub rising : s .from ≤ s .to

@@ -5,7 +5,7 @@ ghost use lib.ListN.{length};
 ghost use Prim.Native.Nat.{_<_, _≤_, _+_, _*_, _/_};
 ghost use Rattle.lattice.specs.Point.{Before};
 ghost use Rattle.packed.specs.Packed.{side, cells, unpacked};
-ghost use Rattle.stretch.specs.Stretch.{cell, Columns, Keeps, LeftOf, Rowed, StretchOf, Peaked, Tall, After as AfterOf, Rises, Falls, RisesFrom, FallsFrom};
+ghost use Rattle.stretch.specs.Stretch.{cell, Columns, Keeps, LeftOf, StretchOf, Peaked, Tall, After as AfterOf, Rises, Falls, RisesFrom, FallsFrom};
 
 // Columns moved to start at 0, from `from` to below `to`.
 pub struct Stretch {
@@ -140,21 +140,6 @@ fn tidy(stretch: Stretch) -> Stretch
     stretch
 }
 
-// The columns of row y that lie in the hull, by its corners and the last of them in row order.
-pub fn of_row(corners: &[u32], last: u32, y: u32) -> Stretch
-    requires { ⌜ Rowed (now corners) last y ⌝ }
-    ensures { λ r. ⌜ StretchOf (map unpacked (now (corners .entry))) y r ⌝ }
-{
-    let row = Stretch { from: 0, to: SIDE };
-    let mut left = to_last(last, y, from_first(corners[0], y, row));
-    let mut i: usize = 1;
-    while i < corners.len() {
-        left = narrow(corners[i - 1], corners[i], y, left);
-        i += 1;
-    }
-    tidy(narrow(corners[i - 1], corners[0], y, left))
-}
-
 // The corner after that at a place; after the last comes the first.
 fn after(corners: &[u32], i: usize) -> u32
     requires { ⌜ i < length (now corners) ⌝ }
@@ -231,6 +216,26 @@ fn across(corners: &[u32], peak: usize, y: u32, rising: usize, falling: usize) -
     tidy(narrow(corners[falling], after(corners, falling), y, left))
 }
 
+// The row of a hull that has no other.
+fn only_row(corners: &[u32], peak: usize, y: u32) -> Stretch
+    requires { ⌜ Peaked (now corners) peak y × (Tall (now corners) peak → ⊥) ⌝ }
+    ensures { λ r. ⌜ StretchOf (map unpacked (now (corners .entry))) y r ⌝ }
+{
+    let row = Stretch { from: 0, to: SIDE };
+    tidy(to_last(corners[peak], y, from_first(corners[0], y, row)))
+}
+
+// Before the first row: no edge is known.
+pub fn start() -> Crossing
+    ensures { λ r. ⌜ r ≡ record { stretch = record { from = 0; to = 0 }; rising = 0; falling = 0 } ⌝ }
+{
+    Crossing {
+        stretch: Stretch { from: 0, to: 0 },
+        rising: 0,
+        falling: 0,
+    }
+}
+
 // The columns of row y that lie in the hull, and the edges that cross it, to be handed on to the next row: so all rows together take as many
 // steps as there are rows and corners.
 pub fn of_next(corners: &[u32], peak: usize, y: u32, near: Crossing) -> Crossing
@@ -239,7 +244,7 @@ pub fn of_next(corners: &[u32], peak: usize, y: u32, near: Crossing) -> Crossing
 {
     if corners[0] / SIDE == corners[peak] / SIDE {
         return Crossing {
-            stretch: of_row(corners, corners[peak], y),
+            stretch: only_row(corners, peak, y),
             rising: 0,
             falling: 0,
         };

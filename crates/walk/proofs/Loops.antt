@@ -18,12 +18,12 @@ use Rattle.lattice.proofs.SameMembers.{lists-same}
 use Rattle.packed.specs.Packed.{side, cells, placed, unpacked}
 use Rattle.packed.proofs.RowOrder.{placed-injective, placed-order}
 use Rattle.order.specs.Row.{Holds, LeadsTo}
-use Rattle.stretch.specs.Stretch.{cell, StretchOf}
+use Rattle.stretch.specs.Stretch.{cell, StretchOf, Peak}
 use Rattle.stretch.specs.declared.Stretch.{Stretch}
-use Rattle.walk.specs.Walk.{HullOf, Cornered, Walked, Lacking, CountOf, FirstOf, Takes, Puts, Greatest, Gap}
+use Rattle.walk.specs.Walk.{HullOf, Cornered, Walked, Lacking, CountOf, FirstOf, Takes, Puts, Gap}
 use Rattle.walk.proofs.Rows.{part, row-next, holds-leads}
 use Rattle.walk.proofs.Gaps.{Held, Passed, passed-none, passed-held, held-in, gap-here}
-use Rattle.walk.proofs.Walking.{Upto, upto-none, upto-all, upto-more, in-rows, last-row, row-is, gap-lacking, lacking-gap, gaps-exist, columns-listed}
+use Rattle.walk.proofs.Walking.{firstRow, lastRow, some, Upto, upto-none, upto-all, upto-more, in-rows, last-row, row-is, gap-lacking, lacking-gap, gaps-exist, columns-listed}
 
 -- the packed point of a cell
 at-cell : (x y : ℕ) → x < side → unpacked (side * y + x) ≡ cell x y
@@ -35,7 +35,7 @@ at-cell x y h =
 -- row y is one of the hull's, or the one after the last
 pub record Between (corners : List ℕ) (last y : ℕ) : Type 0 where
   pub from : getD corners 0 0 / side ≤ y
-  pub upto : y ≤ last / side + 1
+  pub upto : y ≤ last + 1
 
 -- a hull without any list
 pub walked-alone : (corners : List ℕ) → Cornered corners → Walked corners []
@@ -51,27 +51,27 @@ none-held y = record {
 }
 
 -- ---- what is lacking, row by row
-module _ (corners : List ℕ) (list : List ℤ) (w : Walked corners list) (some : 0 < length corners) (last : ℕ) (g : Greatest corners last) where
-  rows : (p : Point) → Lacking corners list p → (placed (getD corners 0 0 / side) ≤ℤ p .y) × (p .y <ℤ placed (last / side + 1))
-  rows p l = in-rows corners (w .cornered) some last g p (l .within)
+module _ (corners : List ℕ) (list : List ℤ) (w : Walked corners list) (peak : ℕ) (g : Peak corners peak) where
+  rows : (p : Point) → Lacking corners list p → (placed (firstRow corners) ≤ℤ p .y) × (p .y <ℤ placed ((lastRow corners peak) + 1))
+  rows p l = in-rows corners (w .cornered) peak g p (l .within)
 
-  pub between-first : Between corners last (getD corners 0 0 / side)
-  between-first = record { from = omega arith; upto = omega (arith, g .greatest 0 some) }
+  pub between-first : Between corners (lastRow corners peak) (firstRow corners)
+  between-first = record { from = omega arith; upto = omega (arith, g .greatest 0 (some corners (w .cornered) peak g)) }
 
-  pub none-yet : Lists (Upto (Lacking corners list) (getD corners 0 0 / side)) []
-  none-yet = upto-none (Lacking corners list) (getD corners 0 0 / side) (λ p l. rows p l .0)
+  pub none-yet : Lists (Upto (Lacking corners list) (firstRow corners)) []
+  none-yet = upto-none (Lacking corners list) (firstRow corners) (λ p l. rows p l .0)
 
-  module _ (y : ℕ) (b : Between corners last y) where
+  module _ (y : ℕ) (b : Between corners (lastRow corners peak) y) where
     -- past the last row
-    pub before-past : last / side < y → (p : Point) → Lacking corners list p → p .y <ℤ placed y
-    before-past u p l = let e : last / side + 1 ≡ y = omega (arith, b .upto) in
+    pub before-past : (lastRow corners peak) < y → (p : Point) → Lacking corners list p → p .y <ℤ placed y
+    before-past u p l = let e : (lastRow corners peak) + 1 ≡ y = omega (arith, b .upto) in
         subst (λ n. p .y <ℤ placed n) e (rows p l .1)
 
-    pub all-passed : last / side < y → (l : List Point) → Lists (Upto (Lacking corners list) y) l → Lists (Lacking corners list) l
+    pub all-passed : (lastRow corners peak) < y → (l : List Point) → Lists (Upto (Lacking corners list) y) l → Lists (Lacking corners list) l
     all-passed u = upto-all (Lacking corners list) y (before-past u)
 
     -- one row more
-    pub between-next : y ≤ last / side → Between corners last (y + 1)
+    pub between-next : y ≤ (lastRow corners peak) → Between corners (lastRow corners peak) (y + 1)
     between-next u = record { from = omega (arith, b .from); upto = omega arith }
 
 -- ---- counted
@@ -80,24 +80,24 @@ pub record Counted (corners : List ℕ) (last y total : ℕ) : Type 0 where
   pub count : CountOf (Upto (Lacking corners []) y) total
   pub small : total ≤ side * y
 
-module _ (corners : List ℕ) (h : Cornered corners) (some : 0 < length corners) (last : ℕ) (g : Greatest corners last) where
+module _ (corners : List ℕ) (h : Cornered corners) (peak : ℕ) (g : Peak corners peak) where
   alone : Walked corners []
   alone = walked-alone corners h
 
-  pub counted-none : Counted corners last (getD corners 0 0 / side) 0
+  pub counted-none : Counted corners (lastRow corners peak) (firstRow corners) 0
   counted-none = record {
-    between = between-first corners [] alone some last g;
-    count = ([], none-yet corners [] alone some last g, refl);
+    between = between-first corners [] alone peak g;
+    count = ([], none-yet corners [] alone peak g, refl);
     small = omega arith;
   }
 
-  module _ (y total : ℕ) (d : Counted corners last y total) where
-    pub counted-more : y ≤ last / side → (s : Stretch) → StretchOf (map unpacked corners) y s → Counted corners last (y + 1) (total + (s .to - s .from))
+  module _ (y total : ℕ) (d : Counted corners (lastRow corners peak) y total) where
+    pub counted-more : y ≤ (lastRow corners peak) → (s : Stretch) → StretchOf (map unpacked corners) y s → Counted corners (lastRow corners peak) (y + 1) (total + (s .to - s .from))
     counted-more u s f =
         let e : s .from + (s .to - s .from) ≡ s .to = omega (arith, f .rising) in
         let r = columns-listed (s .from) (s .to - s .from) y in
         record {
-          between = between-next corners [] alone some last g y (d .between) u;
+          between = between-next corners [] alone peak g y (d .between) u;
           count = (
             d .count .0 ++ r .0,
             upto-more (Lacking corners []) y (Gap [] s y) (gap-lacking corners [] alone y 0 0 s f (none-held y)) (lacking-gap corners [] alone y 0 0 s f (none-held y))
@@ -107,11 +107,11 @@ module _ (corners : List ℕ) (h : Cornered corners) (some : 0 < length corners)
           small = omega (arith, d .small, f .few);
         }
 
-    pub counted-all : last / side < y → CountOf (HullOf corners) total
+    pub counted-all : (lastRow corners peak) < y → CountOf (HullOf corners) total
     counted-all u = (
       d .count .0,
       lists-same (Lacking corners []) (HullOf corners) (λ p l. l .within) (λ p i. record { within = i; kept = λ m. m }) (d .count .0)
-          (all-passed corners [] alone some last g y (d .between) u (d .count .0) (d .count .1)),
+          (all-passed corners [] alone peak g y (d .between) u (d .count .0) (d .count .1)),
       d .count .2,
     )
 
@@ -131,23 +131,23 @@ pub record Written (corners : List ℕ) (list : List ℤ) (last y begin used : �
   pub leads : LeadsTo (points list) (placed y) begin
   pub puts : Puts (Upto (Lacking corners list) y) room₀ used room
 
-module _ (corners : List ℕ) (list : List ℤ) (w : Walked corners list) (some : 0 < length corners) (last : ℕ) (g : Greatest corners last) where
+module _ (corners : List ℕ) (list : List ℤ) (w : Walked corners list) (peak : ℕ) (g : Peak corners peak) where
   -- no point of the list is in a row before the first
-  pub leads-none : LeadsTo (points list) (placed (getD corners 0 0 / side)) 0
+  pub leads-none : LeadsTo (points list) (placed (firstRow corners)) 0
   leads-none = record {
     upto = omega arith;
     before = λ i u. nowhere i u;
-    stops = λ u. in-rows corners (w .cornered) some last g (point (points list) 0) (all-place (HullOf corners) (points list) (w .inside) 0 u) .0;
+    stops = λ u. in-rows corners (w .cornered) peak g (point (points list) 0) (all-place (HullOf corners) (points list) (w .inside) 0 u) .0;
   }
 
-  pub written-none : (room : List ℤ) → Written corners list last (getD corners 0 0 / side) 0 0 room room
+  pub written-none : (room : List ℤ) → Written corners list (lastRow corners peak) (firstRow corners) 0 0 room room
   written-none room = record {
-    between = between-first corners list w some last g;
+    between = between-first corners list w peak g;
     leads = leads-none;
-    puts = ([], none-yet corners list w some last g, refl, refl);
+    puts = ([], none-yet corners list w peak g, refl, refl);
   }
 
-  module _ (room₀ : List ℤ) (t : Takes (Lacking corners list) room₀) (y begin used : ℕ) (room : List ℤ) (d : Written corners list last y begin used room₀ room) where
+  module _ (room₀ : List ℤ) (t : Takes (Lacking corners list) room₀) (y begin used : ℕ) (room : List ℤ) (d : Written corners list (lastRow corners peak) y begin used room₀ room) where
     pub written-length : length room ≡ length room₀
     written-length =
         ap length (d .puts .3)
@@ -166,7 +166,7 @@ module _ (corners : List ℕ) (list : List ℤ) (w : Walked corners list) (some 
       written-length,
     )
 
-    module _ (u : y ≤ last / side) (s : Stretch) (f : StretchOf (map unpacked corners) y s) (end : ℕ) (k : Holds (points list) (placed y) begin end) where
+    module _ (u : y ≤ (lastRow corners peak)) (s : Stretch) (f : StretchOf (map unpacked corners) y s) (end : ℕ) (k : Holds (points list) (placed y) begin end) where
       more : (m : List Point) → Lists (Gap (part list begin end) s y) m → Lists (Upto (Lacking corners list) (y + 1)) (d .puts .0 ++ m)
       more m l =
           upto-more (Lacking corners list) y (Gap (part list begin end) s y) (gap-lacking corners list w y begin end s f k)
@@ -191,9 +191,9 @@ module _ (corners : List ℕ) (list : List ℤ) (w : Walked corners list) (some 
           )
 
       pub written-more : (r : ℕ) (rest : List ℤ) → Puts (Gap (part list begin end) s y) (take (length room - 2 * used) (drop (2 * used) room)) r rest
-          → Written corners list last (y + 1) end (used + r) room₀ (putMid (2 * used) (length room - 2 * used) room rest)
+          → Written corners list (lastRow corners peak) (y + 1) end (used + r) room₀ (putMid (2 * used) (length room - 2 * used) room rest)
       written-more r rest p = record {
-        between = between-next corners list w some last g y (d .between) u;
+        between = between-next corners list w peak g y (d .between) u;
         leads = holds-leads (points list) y begin end k;
         puts = (
           d .puts .0 ++ p .0,
@@ -206,8 +206,8 @@ module _ (corners : List ℕ) (list : List ℤ) (w : Walked corners list) (some 
         );
       }
 
-    pub written-all : last / side < y → Puts (Lacking corners list) room₀ used room
-    written-all u = (d .puts .0, all-passed corners list w some last g y (d .between) u (d .puts .0) (d .puts .1), d .puts .2, d .puts .3)
+    pub written-all : (lastRow corners peak) < y → Puts (Lacking corners list) room₀ used room
+    written-all u = (d .puts .0, all-passed corners list w peak g y (d .between) u (d .puts .0) (d .puts .1), d .puts .2, d .puts .3)
 
 -- ---- looked for
 -- nothing is lacking in the rows before y
@@ -223,23 +223,23 @@ pub record Searching (row : List ℤ) (s : Stretch) (y x : ℕ) : Type 0 where
   pub passed : Passed row x (x - s .from)
   pub full : (n : ℕ) → s .from ≤ n → n < x → In (cell n y) (points row)
 
-module _ (corners : List ℕ) (list : List ℤ) (w : Walked corners list) (some : 0 < length corners) (last : ℕ) (g : Greatest corners last) where
-  pub searched-none : Searched corners list last (getD corners 0 0 / side) 0
+module _ (corners : List ℕ) (list : List ℤ) (w : Walked corners list) (peak : ℕ) (g : Peak corners peak) where
+  pub searched-none : Searched corners list (lastRow corners peak) (firstRow corners) 0
   searched-none = record {
-    between = between-first corners list w some last g;
-    leads = leads-none corners list w some last g;
-    none = none-yet corners list w some last g .every;
+    between = between-first corners list w peak g;
+    leads = leads-none corners list w peak g;
+    none = none-yet corners list w peak g .every;
   }
 
-  module _ (y begin : ℕ) (d : Searched corners list last y begin) where
-    pub searched-all : last / side < y → FirstOf (Lacking corners list) cells
+  module _ (y begin : ℕ) (d : Searched corners list (lastRow corners peak) y begin) where
+    pub searched-all : (lastRow corners peak) < y → FirstOf (Lacking corners list) cells
     searched-all u = record {
       upto = omega arith;
       here = λ l. absurd (omega arith);
-      earlier = λ k l h. d .none (unpacked k) (h, before-past corners list w some last g y (d .between) u (unpacked k) h);
+      earlier = λ k l h. d .none (unpacked k) (h, before-past corners list w peak g y (d .between) u (unpacked k) h);
     }
 
-    module _ (u : y ≤ last / side) (s : Stretch) (f : StretchOf (map unpacked corners) y s) (end : ℕ) (k : Holds (points list) (placed y) begin end) where
+    module _ (u : y ≤ (lastRow corners peak)) (s : Stretch) (f : StretchOf (map unpacked corners) y s) (end : ℕ) (k : Holds (points list) (placed y) begin end) where
       abbrev rowOf : List ℤ
       rowOf = part list begin end
 
@@ -275,7 +275,7 @@ module _ (corners : List ℕ) (list : List ℤ) (w : Walked corners list) (some 
 
         pub searching-found : x < s .to → (Held rowOf (x - s .from) x → ⊥) → FirstOf (Lacking corners list) (side * y + x)
         searching-found l n = record {
-          upto = omega (arith, l, f .few, u, last-row corners (w .cornered) some last g);
+          upto = omega (arith, l, f .few, u, last-row corners (w .cornered) peak g);
           here = λ _. subst (Lacking corners list) (sym (at-cell x y (omega (arith, l, f .few))))
               (gap-lacking corners list w y begin end s f k (cell x y) (record {
                 column = x;
@@ -288,9 +288,9 @@ module _ (corners : List ℕ) (list : List ℤ) (w : Walked corners list) (some 
               none-before (unpacked i) b (ap placed e) (i % side) (ap (λ z. record { x = placed (i % side); y = placed z }) e) (omega (arith, a, e)));
         }
 
-        pub searching-all : s .to ≤ x → Searched corners list last (y + 1) end
+        pub searching-all : s .to ≤ x → Searched corners list (lastRow corners peak) (y + 1) end
         searching-all l = record {
-          between = between-next corners list w some last g y (d .between) u;
+          between = between-next corners list w peak g y (d .between) u;
           leads = holds-leads (points list) y begin end k;
           none = λ p a. either (row-next y (p .y) (a .1)) (λ b. d .none p (a .0, b))
               (λ b. let q = lacking-gap corners list w y begin end s f k p (a .0) b in

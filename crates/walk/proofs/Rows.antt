@@ -1,5 +1,5 @@
 -- The last corner, and the points of a row as a part from the middle of a list in row order. Assumes nothing.
-use mathlib.Core.Path.{_≡_, refl, sym, _∙_, ap, subst, subst₂}
+use mathlib.Core.Path.{_≡_, sym, _∙_, ap, subst, subst₂}
 use mathlib.Core.Logic.{_⊎_, inl, inr}
 use mathlib.Core.List.{List, [], _∷_}
 use Prim.Native.Nat.{ℕ, _+_, _-_, _*_, _≤_, _<_}
@@ -25,35 +25,35 @@ use Rattle.packed.proofs.Reading.{column-at}
 use Rattle.packed.proofs.Tests.{tells-equal, tells-as}
 use Rattle.packed.proofs.RowOrder.{placed-moved, order-placed}
 use Rattle.order.specs.Row.{Holds, LeadsTo}
-use Rattle.stretch.specs.Stretch.{cell, StretchOf}
+use Rattle.stretch.specs.Stretch.{cell, StretchOf, Peak}
 use Rattle.stretch.specs.declared.Stretch.{Stretch}
-use Rattle.walk.specs.Walk.{Greatest, columnAt, RowPoints}
+use Rattle.walk.specs.Walk.{Later, columnAt, RowPoints}
 
 -- ---- the last corner in row order
--- the greatest of the first i corners
-pub record Greater (corners : List ℕ) (last i : ℕ) : Type 0 where
+-- the last of the first i corners
+pub record Peaking (corners : List ℕ) (peak i : ℕ) : Type 0 where
   pub upto : i ≤ length corners
-  pub greatest : (j : ℕ) → j < i → getD corners j 0 ≤ last
-  pub held : (j : ℕ) × (j < length corners) × (getD corners j 0 ≡ last)
+  pub inside : peak < length corners
+  pub greatest : (j : ℕ) → j < i → getD corners j 0 ≤ getD corners peak 0
 
 module _ (corners : List ℕ) where
-  pub greater-one : 0 < length corners → Greater corners (getD corners 0 0) 1
-  greater-one h = record {
+  pub peaking-one : 0 < length corners → Peaking corners 0 1
+  peaking-one h = record {
     upto = omega arith;
+    inside = h;
     greatest = λ j l. let e : j ≡ 0 = omega arith in omega (arith, ap (λ n. getD corners n 0) e);
-    held = (0, h, refl);
   }
 
-  module _ (last i : ℕ) (h : Greater corners last i) where
-    pub greater-more : i < length corners → (r : ℕ) → (last ≤ r) × (getD corners i 0 ≤ r) × ((r ≡ last) ⊎ (r ≡ getD corners i 0)) → Greater corners r (i + 1)
-    greater-more l r g = record {
+  module _ (peak i : ℕ) (h : Peaking corners peak i) where
+    pub peaking-more : i < length corners → (r : ℕ) → Later corners peak i r → Peaking corners r (i + 1)
+    peaking-more l r g = record {
       upto = omega arith;
-      greatest = below-more (λ j. getD corners j 0 ≤ r) i (λ j u. omega (arith, h .greatest j u, g .0)) (g .1);
-      held = either (g .2) (λ e. (h .held .0, h .held .1, h .held .2 ∙ sym e)) (λ e. (i, l, sym e));
+      inside = either (g .2) (λ e. omega (arith, e, h .inside)) (λ e. omega (arith, e));
+      greatest = below-more (λ j. getD corners j 0 ≤ getD corners r 0) i (λ j u. omega (arith, h .greatest j u, g .0)) (g .1);
     }
 
-    pub greater-all : length corners ≤ i → Greatest corners last
-    greater-all l = record { greatest = λ j u. h .greatest j (omega arith); held = h .held }
+    pub peaking-all : length corners ≤ i → Peak corners peak
+    peaking-all l = record { inside = h .inside; greatest = λ j u. h .greatest j (omega arith) }
 
 -- ---- the point at a place is in a column, as the machine tests it
 pub tells-held : (list : List ℤ) (i : ℕ) (x : ℤ) → i < length (points list) → SFits w32 (column-at list i) → SFits w32 x

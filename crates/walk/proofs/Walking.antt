@@ -18,14 +18,14 @@ use Rattle.lattice.proofs.Frame.{Framed, hull-framed, hull-in-range}
 use Rattle.lattice.proofs.RowKey.{rangeWidth}
 use Rattle.lattice.proofs.RowLists.{lists-exist}
 use Rattle.lattice.proofs.SameMembers.{lists-same, lists-one, lists-append}
-use Rattle.packed.specs.Packed.{side, cells, moved, placed, unpacked}
+use Rattle.packed.specs.Packed.{side, moved, placed, unpacked}
 use Rattle.packed.proofs.Border.{moved-small}
 use Rattle.packed.proofs.KeyLaws.{unpacked-at, in-unpacked}
 use Rattle.packed.proofs.RowOrder.{unpacked-in-range, unpacked-before, placed-order, placed-grows}
 use Rattle.order.specs.Row.{Holds}
-use Rattle.stretch.specs.Stretch.{cell, Within, Rowed, StretchOf}
+use Rattle.stretch.specs.Stretch.{cell, Within, StretchOf, Peak, Peaked}
 use Rattle.stretch.specs.declared.Stretch.{Stretch}
-use Rattle.walk.specs.Walk.{HullOf, Cornered, Walked, Lacking, Greatest, RowPoints, Gap}
+use Rattle.walk.specs.Walk.{HullOf, Cornered, Walked, Lacking, RowPoints, Gap}
 use Rattle.walk.proofs.Rows.{part, part-in, in-part, in-cell, row-next, next-row, row-points}
 use Rattle.walk.proofs.Gaps.{until, gap-wider, gap-split, gap-before}
 
@@ -68,60 +68,55 @@ nothing (k ∷ corners) e p h = absurd (never (length corners) e)
 pub nothing-listed : (P : Point → Type 0) → ((p : Point) → P p → ⊥) → Lists P []
 nothing-listed P f = record { every = λ p h. f p h; only = λ p m. absurd m; order = tt }
 
+-- the rows of the first corner and of the last
+abbrev pub firstRow : List ℕ → ℕ
+firstRow corners = getD corners 0 0 / side
+
+abbrev pub lastRow : List ℕ → ℕ → ℕ
+lastRow corners peak = getD corners peak 0 / side
+
 module _ (corners : List ℕ) (h : Cornered corners) where
   pub hull-range : (p : Point) → HullOf corners p → InRange p
   hull-range = hull-in-range (Of (map unpacked corners)) (λ q m. let r = in-unpacked corners q m in
       subst InRange (sym (r .2)) (unpacked-in-range (getD corners (r .0) 0) (h .below (r .0) (r .1))))
 
-  module _ (some : 0 < length corners) (last : ℕ) (g : Greatest corners last) where
-    -- the row of the first corner, and the row after that of the last
-    abbrev pub firstRow : ℕ
-    firstRow = getD corners 0 0 / side
+  module _ (peak : ℕ) (g : Peak corners peak) where
+    pub some : 0 < length corners
+    some = omega (arith, g .inside)
 
-    abbrev pub lastRow : ℕ
-    lastRow = last / side
+    pub peaked : (y : ℕ) → firstRow corners ≤ y → y ≤ lastRow corners peak → Peaked corners peak y
+    peaked y u v = record { below = h .below; listed = h .listed; peaks = g; from-row = u; to-row = v }
 
-    pub rowed : (y : ℕ) → firstRow ≤ y → y ≤ lastRow → Rowed corners last y
-    rowed y u v = record {
-      some = some;
-      below = h .below;
-      listed = h .listed;
-      greatest = g .greatest;
-      held = g .held;
-      from-row = u;
-      to-row = v;
-    }
-
-    pub last-row : lastRow < side
-    last-row = omega (arith, subst (λ k. k < cells) (g .held .2) (h .below (g .held .0) (g .held .1)))
+    pub last-row : lastRow corners peak < side
+    last-row = omega (arith, h .below peak (g .inside))
 
     -- no row before the first nor after the last has a point of the hull
-    pub in-rows : (p : Point) → HullOf corners p → (placed firstRow ≤ℤ p .y) × (p .y <ℤ placed (lastRow + 1))
+    pub in-rows : (p : Point) → HullOf corners p → (placed (firstRow corners) ≤ℤ p .y) × (p .y <ℤ placed (lastRow corners peak + 1))
     in-rows p i =
-        let f = hull-framed least (placed firstRow) rangeWidth (lastRow + 1 - firstRow) (Of (map unpacked corners)) framed p i in
+        let f = hull-framed least (placed (firstRow corners)) rangeWidth (lastRow corners peak + 1 - firstRow corners) (Of (map unpacked corners)) framed p i in
         (f .low, subst (λ z. p .y <ℤ z) height (f .high))
       where
-        first-row : (i : ℕ) → i < length corners → firstRow ≤ getD corners i 0 / side
+        first-row : (i : ℕ) → i < length corners → firstRow corners ≤ getD corners i 0 / side
         first-row zero l = omega arith
         first-row (suc i) l =
             let b = corner-list-test (map unpacked corners) .1 (h .listed) .first i (omega (arith, l, length-map corners unpacked)) in
             omega (arith, unpacked-before (getD corners 0 0) (getD corners (suc i) 0) (subst₂ Before (unpacked-at corners 0 some) (unpacked-at corners (suc i) l) b))
 
-        height : placed firstRow +ℤ pos (lastRow + 1 - firstRow) ≡ placed (lastRow + 1)
+        height : placed (firstRow corners) +ℤ pos (lastRow corners peak + 1 - firstRow corners) ≡ placed (lastRow corners peak + 1)
         height =
-            let e : firstRow + (lastRow + 1 - firstRow) ≡ lastRow + 1 = omega (arith, first-row (g .held .0) (g .held .1), ap (λ k. k / side) (g .held .2)) in
-            ring (pos firstRow ∷ pos (lastRow + 1 - firstRow) ∷ []) (search quote depth 20) tt ∙ ap placed e
+            let e : firstRow corners + (lastRow corners peak + 1 - firstRow corners) ≡ lastRow corners peak + 1 = omega (arith, first-row peak (g .inside)) in
+            ring (pos (firstRow corners) ∷ pos (lastRow corners peak + 1 - firstRow corners) ∷ []) (search quote depth 20) tt ∙ ap placed e
 
-        framed : (q : Point) → In q (map unpacked corners) → Framed least (placed firstRow) rangeWidth (lastRow + 1 - firstRow) q
+        framed : (q : Point) → In q (map unpacked corners) → Framed least (placed (firstRow corners)) rangeWidth (lastRow corners peak + 1 - firstRow corners) q
         framed q m =
             let r = in-unpacked corners q m in
             let k = getD corners (r .0) 0 in
             let n = unpacked-in-range k (h .below (r .0) (r .1)) in
-            subst (Framed least (placed firstRow) rangeWidth (lastRow + 1 - firstRow)) (sym (r .2)) record {
+            subst (Framed least (placed (firstRow corners)) rangeWidth (lastRow corners peak + 1 - firstRow corners)) (sym (r .2)) record {
               left = n .x-from;
               right = linear< ((unpacked k) .x ∷ []) (gap≤ (n .x-to)) (search quote depth 20) tt;
-              low = linear≤ (placed firstRow ∷ placed (k / side) ∷ []) (placed-grows firstRow (k / side) (first-row (r .0) (r .1))) (search quote depth 20) tt;
-              high = subst (λ z. placed (k / side) <ℤ z) (sym height) (placed-order (k / side) (lastRow + 1) (omega (arith, g .greatest (r .0) (r .1))));
+              low = linear≤ (placed (firstRow corners) ∷ placed (k / side) ∷ []) (placed-grows (firstRow corners) (k / side) (first-row (r .0) (r .1))) (search quote depth 20) tt;
+              high = subst (λ z. placed (k / side) <ℤ z) (sym height) (placed-order (k / side) (lastRow corners peak + 1) (omega (arith, g .greatest (r .0) (r .1))));
             }
 
 -- ---- the gaps of a row are the points of the row that are lacking

@@ -1,6 +1,7 @@
 -- The lattice points of a hull that a list in row order lacks: counted, the first of them, all of them. Report lacks the points of the
 -- grain, Rebuild the missing points. Assumes nothing.
 use mathlib.Core.Path.{_≡_}
+use mathlib.Core.Logic.{_⊎_}
 use mathlib.Core.List.{List, map}
 use Prim.Native.Nat.{ℕ, _*_, _≤_, _<_}
 use lib.ListN.{length, getD}
@@ -49,10 +50,9 @@ abbrev pub Puts : (Point → Type 0) → List ℤ → ℕ → List ℤ → Type 
 Puts P room r room′ = (l : List Point) × Lists P l × (r ≡ length l) × (room′ ≡ holding l room)
 
 -- ---- one row
--- the last corner in row order
-pub record Greatest (corners : List ℕ) (r : ℕ) : Type 0 where
-  pub greatest : (i : ℕ) → i < length corners → getD corners i 0 ≤ r
-  pub held : (i : ℕ) × (i < length corners) × (getD corners i 0 ≡ r)
+-- r is i or j, and no earlier corner in row order than either
+abbrev pub Later : List ℕ → ℕ → ℕ → ℕ → Type 0
+Later corners i j r = (getD corners i 0 ≤ getD corners r 0) × (getD corners j 0 ≤ getD corners r 0) × ((r ≡ i) ⊎ (r ≡ j))
 
 -- the column of a point of a list, moved to start at 0
 abbrev pub columnAt : List ℤ → ℕ → ℕ

@@ -1,11 +1,11 @@
 // The lattice points of a hull that a list in row order lacks, row by row: how many the hull has, the first that is lacking, all of them.
 ghost use mathlib.Core.Path.{_≡_};
-ghost use mathlib.Core.Logic.{_⊎_};
 ghost use Prim.Native.Nat.{_<_, _≤_};
 ghost use lib.ListN.{length};
 ghost use Rattle.lattice.specs.Point.{points, point};
 ghost use Rattle.packed.specs.Packed.{Tells, side};
-ghost use Rattle.walk.specs.Walk.{HullOf, Cornered, Walked, Lacking, CountOf, FirstOf, Takes, Puts, Greatest, RowPoints, Gap};
+ghost use Rattle.stretch.specs.Stretch.{Peak};
+ghost use Rattle.walk.specs.Walk.{HullOf, Cornered, Walked, Lacking, CountOf, FirstOf, Takes, Puts, Later, RowPoints, Gap};
 use stretch::Stretch;
 
 const SIDE: u32 = 16384;
@@ -13,27 +13,28 @@ const SIDE: u32 = 16384;
 // One more than the last packed point: no point is lacking.
 pub const NONE: u32 = 268435456;
 
-// The later of two packed points, and the last of the corners, in row order.
-fn later(a: u32, b: u32) -> u32
-    ensures { λ r. ⌜ (a ≤ r) × (b ≤ r) × ((r ≡ a) ⊎ (r ≡ b)) ⌝ }
+// The later of two corners, and the last of all, in row order, by their places.
+fn later(corners: &[u32], i: usize, j: usize) -> usize
+    requires { ⌜ (i < length (now corners)) × (j < length (now corners)) ⌝ }
+    ensures { λ r. ⌜ Later (now (corners .entry)) i j r ⌝ }
 {
-    if a < b {
-        return b;
+    if corners[i] < corners[j] {
+        return j;
     }
-    a
+    i
 }
 
-pub fn greatest(corners: &[u32]) -> u32
+pub fn peak(corners: &[u32]) -> usize
     requires { ⌜ 0 < length (now corners) ⌝ }
-    ensures { λ r. ⌜ Greatest (now (corners .entry)) r ⌝ }
+    ensures { λ r. ⌜ Peak (now (corners .entry)) r ⌝ }
 {
-    let mut last = corners[0];
+    let mut peak: usize = 0;
     let mut i: usize = 1;
     while i < corners.len() {
-        last = later(last, corners[i]);
+        peak = later(corners, peak, i);
         i += 1;
     }
-    last
+    peak
 }
 
 // Whether a row has an i-th point, and this is in column x.
@@ -54,12 +55,14 @@ pub fn count(corners: &[u32]) -> u64
     if corners.len() == 0 {
         return 0;
     }
-    let last = greatest(corners);
-    let last_row = last / SIDE;
+    let peak = peak(corners);
+    let last_row = corners[peak] / SIDE;
+    let mut crossing = stretch::start();
     let mut total: u64 = 0;
     let mut y = corners[0] / SIDE;
     while y <= last_row {
-        let stretch = stretch::of_row(corners, last, y);
+        crossing = stretch::of_next(corners, peak, y, crossing);
+        let stretch = crossing.stretch;
         total += (stretch.to - stretch.from) as u64;
         y += 1;
     }
@@ -74,14 +77,17 @@ pub fn first(corners: &[u32], list: &[i32]) -> u32
     if corners.len() == 0 {
         return NONE;
     }
-    let last = greatest(corners);
+    let peak = peak(corners);
+    let last = corners[peak] / SIDE;
+    let mut crossing = stretch::start();
     let mut begin: usize = 0;
     let mut y = corners[0] / SIDE;
     'rows: loop {
-        if last / SIDE < y {
+        if last < y {
             break 'rows NONE;
         }
-        let columns = stretch::of_row(corners, last, y);
+        crossing = stretch::of_next(corners, peak, y, crossing);
+        let columns = crossing.stretch;
         let end = order::run(list, packed::placed(y), begin);
         let row = &list[2 * begin..2 * end];
         let mut x = columns.from;
@@ -128,12 +134,15 @@ pub fn write(corners: &[u32], list: &[i32], room: &mut [i32]) -> usize
     if corners.len() == 0 {
         return 0;
     }
-    let last = greatest(corners);
+    let peak = peak(corners);
+    let last = corners[peak] / SIDE;
+    let mut crossing = stretch::start();
     let mut used: usize = 0;
     let mut begin: usize = 0;
     let mut y = corners[0] / SIDE;
-    while y <= last / SIDE {
-        let stretch = stretch::of_row(corners, last, y);
+    while y <= last {
+        crossing = stretch::of_next(corners, peak, y, crossing);
+        let stretch = crossing.stretch;
         let end = order::run(list, packed::placed(y), begin);
         used += write_row(&list[2 * begin..2 * end], stretch, y, &mut room[2 * used..]);
         begin = end;

@@ -9,7 +9,7 @@ use denote.Ref.{now}
 use lib.ListN.{getD}
 use mathlib.Core.Path.{subst}
 use Rattle.stretch.specs.Stretch.{Keeps, LeftOf}
-use Rattle.stretch.proofs.Sides.{peaked-rowed, crossed, after-same, after-below}
+use Rattle.stretch.proofs.Sides.{crossed, after-same, after-below}
 use Rattle.stretch.proofs.Rowing.{row-small}
 
 mul-to-last : tie.Need-mul-to-last
@@ -47,7 +47,7 @@ shared-slice-read-narrow-2 c = search needs
 narrow-requires : tie.Need-narrow-requires
 narrow-requires c κs = let a = c .before .before .before .before .before .before .before in
     let r = a .pre .1 .inside in
-    (a .pre .0 .below _ (omega (arith, r)), a .pre .0 .below _ (omega (arith, r)), row-small _ _ _ (peaked-rowed _ _ _ (a .pre .0)), c .before .before .to-last .ensures .few)
+    (a .pre .0 .below _ (omega (arith, r)), a .pre .0 .below _ (omega (arith, r)), row-small _ _ _ (a .pre .0), c .before .before .to-last .ensures .few)
 
 mul-narrow-3 : tie.Need-mul-narrow-3
 mul-narrow-3 c = search needs
@@ -60,7 +60,7 @@ after-requires c κs = search needs
 
 narrow-requires-2 : tie.Need-narrow-requires-2
 narrow-requires-2 c κs = let a = c .before .before .before .before .before .before .before .before .before .before in
-    (a .pre .0 .below _ (a .pre .3), after-below (now (a .args .corners)) _ _ (a .pre .0 .below) (c .after .ensures), row-small _ _ _ (peaked-rowed _ _ _ (a .pre .0)), c .before .before .narrow .ensures .few)
+    (a .pre .0 .below _ (a .pre .3), after-below (now (a .args .corners)) _ _ (a .pre .0 .below) (c .after .ensures), row-small _ _ _ (a .pre .0), c .before .before .narrow .ensures .few)
 
 tidy-requires : tie.Need-tidy-requires
 tidy-requires c κs = c .narrow2 .ensures .few

@@ -6,7 +6,7 @@ use mathlib.Core.Path.{_≡_, sym, _∙_, subst}
 use native.Mathlib.Omega.{arith}
 use borrow.Author.Needs.{needs}
 use denote.Ref.{now}
-use lib.ListN.{length}
+use lib.ListN.{length, getD}
 use mir.Syntax.{w32}
 use mir.Val.{toZ, ofZ}
 use Rattle.lattice.specs.Point.{points}
@@ -15,20 +15,20 @@ use Rattle.packed.specs.Packed.{side, placed}
 use Rattle.packed.proofs.Tests.{read-back, tells-yes, tells-no}
 use Rattle.order.specs.Row.{Holds, RunsTo}
 use Rattle.order.proofs.RowLaws.{ends-hold}
-use Rattle.walk.proofs.Walking.{rowed, last-row, nothing}
+use Rattle.walk.proofs.Walking.{peaked, last-row, nothing}
 use Rattle.walk.proofs.Loops.{Searched, Searching, searched-none, searched-all, searching-none, searching-more, searching-found, searching-all}
 
 abbrev Inv-loop : tie.InvT-loop
-Inv-loop corners list last begin y columns end row x₀ x = Searching row columns y x
+Inv-loop corners list peak last crossing begin y columns end row x₀ x = Searching row columns y x
 
 abbrev μ-loop : tie.MeasureT-loop
-μ-loop corners list last begin y columns end row x₀ x = columns .to - x
+μ-loop corners list peak last crossing begin y columns end row x₀ x = columns .to - x
 
 abbrev Inv-rows : tie.InvT-rows
-Inv-rows corners list last begin₀ y₀ begin y = Searched corners list last y begin
+Inv-rows corners list peak last crossing₀ begin₀ y₀ crossing begin y = Searched corners list last y begin
 
 abbrev μ-rows : tie.MeasureT-rows
-μ-rows corners list last begin₀ y₀ begin y = last / side + 1 - y
+μ-rows corners list peak last crossing₀ begin₀ y₀ crossing begin y = last + 1 - y
 
 returns : tie.Need-returns Inv-loop μ-loop Inv-rows μ-rows
 returns c = record { upto = omega arith; here = λ l. absurd (omega arith); earlier = λ k l h. nothing (now (c .before .before .args .corners)) (c .if1 .taken) _ (h .within) }
@@ -36,48 +36,56 @@ returns c = record { upto = omega arith; here = λ l. absurd (omega arith); earl
 some : (c : tie.Else1 Inv-loop μ-loop Inv-rows μ-rows) → 0 < length (now (c .before .before .args .corners))
 some c = omega (arith, c .if1 .left)
 
-greatest-requires : tie.Need-greatest-requires Inv-loop μ-loop Inv-rows μ-rows
-greatest-requires c κs = some c
+peak-requires : tie.Need-peak-requires Inv-loop μ-loop Inv-rows μ-rows
+peak-requires c κs = some c
+
+mul-last : tie.Need-mul-last Inv-loop μ-loop Inv-rows μ-rows
+mul-last c = omega (arith, c .peak .ensures .inside)
+
+shared-slice-read-last : tie.Need-shared-slice-read-last Inv-loop μ-loop Inv-rows μ-rows
+shared-slice-read-last c = c .before .peak .ensures .inside
+
+start-requires : tie.Need-start-requires Inv-loop μ-loop Inv-rows μ-rows
+start-requires c κs = search needs
 
 shared-slice-read-y : tie.Need-shared-slice-read-y Inv-loop μ-loop Inv-rows μ-rows
-shared-slice-read-y c = some (c .before .before)
+shared-slice-read-y c = some (c .before .before .before .before)
 
 rows-holds : tie.Need-rows-holds Inv-loop μ-loop Inv-rows μ-rows
-rows-holds c = let e = c .before .before in
-    searched-none _ _ (e .before .before .pre) (some e) _ (c .before .greatest .ensures)
+rows-holds c = let p = c .before .before .before in
+    searched-none _ _ (p .before .before .before .pre) _ (p .peak .ensures)
 
 -- no row of the hull is past the range
-few : (c : tie.At-rows Inv-loop μ-loop Inv-rows μ-rows) → let g = c .before .before in g .greatest .result / side < side
-few c = let g = c .before .before in last-row _ (g .before .before .before .pre .cornered) (some (g .before)) _ (g .greatest .ensures)
+few : (c : tie.At-rows Inv-loop μ-loop Inv-rows μ-rows) → let p = c .before .before .before .before in getD (now (p .before .before .before .args .corners)) (p .peak .result) 0 / side < side
+few c = let p = c .before .before .before .before in last-row _ (p .before .before .before .pre .cornered) _ (p .peak .ensures)
 
 -- row y is one of the hull's
-row : (c : tie.Else2 Inv-loop μ-loop Inv-rows μ-rows) → c .before .rows .y ≤ c .before .before .before .greatest .result / side
+row : (c : tie.Else2 Inv-loop μ-loop Inv-rows μ-rows) → let p = c .before .before .before .before .before in c .before .rows .y ≤ getD (now (p .before .before .before .args .corners)) (p .peak .result) 0 / side
 row c = omega (arith, c .if2 .left)
 
-of-row-requires : tie.Need-of-row-requires Inv-loop μ-loop Inv-rows μ-rows
-of-row-requires c κs = let g = c .before .before .before in
-    rowed _ (g .before .before .before .pre .cornered) (some (g .before)) _ (g .greatest .ensures) _ (c .before .rows .inv .between .from) (row c)
+of-next-requires : tie.Need-of-next-requires Inv-loop μ-loop Inv-rows μ-rows
+of-next-requires c κs = let p = c .before .before .before .before .before in
+    peaked _ (p .before .before .before .pre .cornered) _ (p .peak .ensures) _ (c .before .rows .inv .between .from) (row c)
 
 placed-requires : tie.Need-placed-requires Inv-loop μ-loop Inv-rows μ-rows
-placed-requires c κs = omega (arith, few (c .before .before), row (c .before))
+placed-requires c κs = omega (arith, few (c .before .before .before), row (c .before .before))
 
 run-requires : tie.Need-run-requires Inv-loop μ-loop Inv-rows μ-rows
-run-requires c κs = c .before .before .before .rows .inv .leads .upto
+run-requires c κs = c .before .before .before .before .rows .inv .leads .upto
 
 -- the points of the row
-held : (c : tie.After-run Inv-loop μ-loop Inv-rows μ-rows) → let l = c .before .before .before .before in
-    Holds (points (now (l .before .before .before .before .before .args .list))) (placed (l .rows .y)) (l .rows .begin) (c .run .result)
-held c = let l = c .before .before .before .before in
-    let a = l .before .before .before .before .before in
+held : (c : tie.After-run Inv-loop μ-loop Inv-rows μ-rows) → let l = c .before .before .before .before .before in
+    Holds (points (now (l .before .before .before .before .before .before .before .args .list))) (placed (l .rows .y)) (l .rows .begin) (c .run .result)
+held c = let l = c .before .before .before .before .before in
+    let a = l .before .before .before .before .before .before .before in
     ends-hold _ _ _ _ (a .pre .order) (l .rows .inv .leads)
     (subst (λ y. RunsTo (points (now (a .args .list))) y (l .rows .begin) (c .run .result))
     (read-back (c .before .placed .result) (record { sfits = c .before .placed .ok }) ∙ c .before .placed .ensures) (c .run .ensures))
 
 -- they lie in the list
-inside : (c : tie.After-run Inv-loop μ-loop Inv-rows μ-rows) → let l = c .before .before .before .before in
-    2 * c .run .result ≤ length (now (l .before .before .before .before .before .args .list))
-inside c = let l = c .before .before .before .before in
-    omega (arith, held c .inside, points-length (now (l .before .before .before .before .before .args .list)))
+inside : (c : tie.After-run Inv-loop μ-loop Inv-rows μ-rows) → let l = c .before .before .before .before .before in 2 * c .run .result ≤ length (now (l .before .before .before .before .before .before .before .args .list))
+inside c = let l = c .before .before .before .before .before in
+    omega (arith, held c .inside, points-length (now (l .before .before .before .before .before .before .before .args .list)))
 
 mul-row : tie.Need-mul-row Inv-loop μ-loop Inv-rows μ-rows
 mul-row c = omega (arith, inside c, held c .rising)
@@ -99,9 +107,9 @@ part-row-end c = inside c
 
 loop-holds : tie.Need-loop-holds Inv-loop μ-loop Inv-rows μ-rows
 loop-holds c = let r = c .before in
-    let l = r .before .before .before .before in
-    let g = l .before .before in
-    searching-none _ _ (g .before .before .before .pre) (some (g .before)) _ (g .greatest .ensures) _ _ (l .rows .inv) (row (r .before .before .before)) _ (r .before .before .of-row .ensures) _ (held r)
+    let l = r .before .before .before .before .before in
+    let p = l .before .before .before .before in
+    searching-none _ _ (p .before .before .before .pre) _ (p .peak .ensures) _ _ (l .rows .inv) (row (r .before .before .before .before)) _ (r .before .before .before .of-next .ensures) _ (held r)
 
 sub-holds : tie.Need-sub-holds Inv-loop μ-loop Inv-rows μ-rows
 sub-holds c = c .before .before .before .loop .inv .from
@@ -110,17 +118,17 @@ cast-holds : tie.Need-cast-holds Inv-loop μ-loop Inv-rows μ-rows
 cast-holds c = omega arith
 
 placed-requires-2 : tie.Need-placed-requires-2 Inv-loop μ-loop Inv-rows μ-rows
-placed-requires-2 c κs = omega (arith, c .before .if3 .taken, c .before .before .before .before .before .before .before .of-row .ensures .few)
+placed-requires-2 c κs = omega (arith, c .before .if3 .taken, c .before .before .before .before .before .before .before .before .of-next .ensures .few)
 
 holds-requires : tie.Need-holds-requires Inv-loop μ-loop Inv-rows μ-rows
 holds-requires c κs = search needs
 
--- the column as it was asked for, and whether the row has a point in it
+-- the column as it was asked for
 is-column : (c : tie.After-placed2 Inv-loop μ-loop Inv-rows μ-rows) → toZ w32 (ofZ w32 (c .placed2 .result)) ≡ placed (c .before .before .before .before .loop .x)
 is-column c = read-back (c .placed2 .result) (record { sfits = c .placed2 .ok }) ∙ c .placed2 .ensures
 
 add-x : tie.Need-add-x Inv-loop μ-loop Inv-rows μ-rows
-add-x c = omega (arith, c .before .before .before .before .if3 .taken, c .before .before .before .before .before .before .before .before .before .before .of-row .ensures .few)
+add-x c = omega (arith, c .before .before .before .before .if3 .taken, c .before .before .before .before .before .before .before .before .before .before .before .of-next .ensures .few)
 
 loop-less : tie.Need-loop-less Inv-loop μ-loop Inv-rows μ-rows
 loop-less c = omega (arith, c .before .before .before .before .if3 .taken)
@@ -128,20 +136,18 @@ loop-less c = omega (arith, c .before .before .before .before .if3 .taken)
 loop-again : tie.Need-loop-again Inv-loop μ-loop Inv-rows μ-rows
 loop-again c = let l = c .before .before .before .before .before .before in
     let r = l .before .before in
-    let o = r .before .before .before .before in
-    let g = o .before .before in
+    let o = r .before .before .before .before .before in
+    let p = o .before .before .before .before in
     let h = tells-yes (c .if4 .taken) (c .before .holds .ensures) in
-    searching-more _ _ (g .before .before .before .pre) (some (g .before)) _ (g .greatest .ensures) _ _ (o .rows .inv) (row (r .before .before .before)) _ (r .before .before .of-row .ensures) _ (held r)
+    searching-more _ _ (p .before .before .before .pre) _ (p .peak .ensures) _ _ (o .rows .inv) (row (r .before .before .before .before)) _ (r .before .before .before .of-next .ensures) _ (held r)
     _ (l .loop .inv) (c .before .before .before .before .if3 .taken) (h .0, h .1 ∙ is-column (c .before .before))
 
 -- the row and the column are in the range
-small : (c : tie.Else4 Inv-loop μ-loop Inv-rows μ-rows) → let l = c .before .before .before .before .before .before in
-    (l .before .before .before .before .before .before .rows .y < side) × (l .loop .x < side)
-small c = let l = c .before .before .before .before .before .before in
-    let r = l .before .before in (
-      omega (arith, few (r .before .before .before .before), row (r .before .before .before)),
-      omega (arith, c .before .before .before .before .if3 .taken, r .before .before .of-row .ensures .few),
-    )
+small : (c : tie.Else4 Inv-loop μ-loop Inv-rows μ-rows) → let l = c .before .before .before .before .before .before in (l .before .before .before .before .before .before .before .rows .y < side) × (l .loop .x < side)
+small c = let r = c .before .before .before .before .before .before .before .before in (
+  omega (arith, few (r .before .before .before .before .before), row (r .before .before .before .before)),
+  omega (arith, c .before .before .before .before .if3 .taken, r .before .before .before .of-next .ensures .few),
+)
 
 mul-result : tie.Need-mul-result Inv-loop μ-loop Inv-rows μ-rows
 mul-result c = omega (arith, small c .0)
@@ -150,29 +156,29 @@ add-result : tie.Need-add-result Inv-loop μ-loop Inv-rows μ-rows
 add-result c = omega (arith, small c)
 
 add-y : tie.Need-add-y Inv-loop μ-loop Inv-rows μ-rows
-add-y c = let r = c .before .before .before .before in omega (arith, few (r .before .before .before .before), row (r .before .before .before))
+add-y c = let r = c .before .before .before .before in omega (arith, few (r .before .before .before .before .before), row (r .before .before .before .before))
 
 rows-less : tie.Need-rows-less Inv-loop μ-loop Inv-rows μ-rows
-rows-less c = let r = c .before .before .before .before in omega (arith, row (r .before .before .before))
+rows-less c = let r = c .before .before .before .before in omega (arith, row (r .before .before .before .before))
 
 rows-again : tie.Need-rows-again Inv-loop μ-loop Inv-rows μ-rows
 rows-again c = let l = c .before .before in
     let r = l .before .before in
-    let o = r .before .before .before .before in
-    let g = o .before .before in
-    searching-all _ _ (g .before .before .before .pre) (some (g .before)) _ (g .greatest .ensures) _ _ (o .rows .inv) (row (r .before .before .before)) _ (r .before .before .of-row .ensures) _ (held r)
+    let o = r .before .before .before .before .before in
+    let p = o .before .before .before .before in
+    searching-all _ _ (p .before .before .before .pre) _ (p .peak .ensures) _ _ (o .rows .inv) (row (r .before .before .before .before)) _ (r .before .before .before .of-next .ensures) _ (held r)
     _ (l .loop .inv) (c .if3 .left)
 
 returns-2 : tie.Need-returns-2 Inv-loop μ-loop Inv-rows μ-rows
-returns-2 c = let g = c .before .before .before in
-    searched-all _ _ (g .before .before .before .pre) (some (g .before)) _ (g .greatest .ensures) _ _ (c .before .rows .inv) (c .if2 .taken)
+returns-2 c = let p = c .before .before .before .before .before in
+    searched-all _ _ (p .before .before .before .pre) _ (p .peak .ensures) _ _ (c .before .rows .inv) (c .if2 .taken)
 
 returns-3 : tie.Need-returns-3 Inv-loop μ-loop Inv-rows μ-rows
 returns-3 c = let l = c .before .before .before .before .before .before in
     let r = l .before .before in
-    let o = r .before .before .before .before in
-    let g = o .before .before in
-    searching-found _ _ (g .before .before .before .pre) (some (g .before)) _ (g .greatest .ensures) _ _ (o .rows .inv) (row (r .before .before .before)) _ (r .before .before .of-row .ensures) _ (held r)
+    let o = r .before .before .before .before .before in
+    let p = o .before .before .before .before in
+    searching-found _ _ (p .before .before .before .pre) _ (p .peak .ensures) _ _ (o .rows .inv) (row (r .before .before .before .before)) _ (r .before .before .before .of-next .ensures) _ (held r)
     _ (l .loop .inv) (c .before .before .before .before .if3 .taken)
     (λ h. tells-no (c .if4 .left) (c .before .holds .ensures) (h .0, h .1 ∙ sym (is-column (c .before .before))))
 
@@ -185,10 +191,13 @@ first-spec =
     Inv-rows
     μ-rows
     returns
-    greatest-requires
+    peak-requires
+    mul-last
+    shared-slice-read-last
+    start-requires
     shared-slice-read-y
     rows-holds
-    of-row-requires
+    of-next-requires
     placed-requires
     run-requires
     mul-row

@@ -5,8 +5,9 @@ use Prim.Native.Nat.{_-_, _+_, _/_, _<_, _≤_, _*_}
 use mathlib.Core.Path.{_≡_, refl, _∙_, subst}
 use mathlib.Core.List.{[]}
 use native.Mathlib.Omega.{arith}
+use borrow.Author.Needs.{needs}
 use denote.Ref.{now}
-use lib.ListN.{length}
+use lib.ListN.{length, getD}
 use Rattle.lattice.specs.Point.{points}
 use Rattle.lattice.proofs.Numbers.{points-length}
 use Rattle.packed.specs.Packed.{side, placed}
@@ -14,14 +15,14 @@ use Rattle.packed.proofs.Tests.{read-back}
 use Rattle.order.specs.Row.{Holds, RunsTo}
 use Rattle.order.proofs.RowLaws.{ends-hold}
 use Rattle.walk.specs.Walk.{Lacking}
-use Rattle.walk.proofs.Walking.{rowed, last-row, nothing, nothing-listed, row-is}
+use Rattle.walk.proofs.Walking.{peaked, last-row, nothing, nothing-listed, row-is}
 use Rattle.walk.proofs.Loops.{Written, written-none, written-length, written-used, written-room, written-more, written-all}
 
 abbrev Inv-loop : tie.InvT-loop
-Inv-loop corners list room₀ last used₀ begin₀ y₀ room used begin y = Written corners list last y begin used room₀ room
+Inv-loop corners list room₀ peak last crossing₀ used₀ begin₀ y₀ room crossing used begin y = Written corners list last y begin used room₀ room
 
 abbrev μ-loop : tie.MeasureT-loop
-μ-loop corners list room₀ last used₀ begin₀ y₀ room used begin y = last / side + 1 - y
+μ-loop corners list room₀ peak last crossing₀ used₀ begin₀ y₀ room crossing used begin y = last + 1 - y
 
 returns : tie.Need-returns Inv-loop μ-loop
 returns c = let a = c .before .before .args in
@@ -30,44 +31,52 @@ returns c = let a = c .before .before .args in
 some : (c : tie.Else1 Inv-loop μ-loop) → 0 < length (now (c .before .before .args .corners))
 some c = omega (arith, c .if1 .left)
 
-greatest-requires : tie.Need-greatest-requires Inv-loop μ-loop
-greatest-requires c κs = some c
+peak-requires : tie.Need-peak-requires Inv-loop μ-loop
+peak-requires c κs = some c
+
+mul-last : tie.Need-mul-last Inv-loop μ-loop
+mul-last c = omega (arith, c .peak .ensures .inside)
+
+shared-slice-read-last : tie.Need-shared-slice-read-last Inv-loop μ-loop
+shared-slice-read-last c = c .before .peak .ensures .inside
+
+start-requires : tie.Need-start-requires Inv-loop μ-loop
+start-requires c κs = search needs
 
 shared-slice-read-y : tie.Need-shared-slice-read-y Inv-loop μ-loop
-shared-slice-read-y c = some (c .before .before)
+shared-slice-read-y c = some (c .before .before .before .before)
 
 loop-holds : tie.Need-loop-holds Inv-loop μ-loop
-loop-holds c = let e = c .before .before in
-    written-none _ _ (e .before .before .pre .0) (some e) _ (c .before .greatest .ensures) _
+loop-holds c = let p = c .before .before .before in
+    written-none _ _ (p .before .before .before .pre .0) _ (p .peak .ensures) _
 
 -- no row of the hull is past the range
-few : (c : tie.At-loop Inv-loop μ-loop) → let g = c .before .before in g .greatest .result / side < side
-few c = let g = c .before .before in last-row _ (g .before .before .before .pre .0 .cornered) (some (g .before)) _ (g .greatest .ensures)
+few : (c : tie.At-loop Inv-loop μ-loop) → let p = c .before .before .before .before in getD (now (p .before .before .before .args .corners)) (p .peak .result) 0 / side < side
+few c = let p = c .before .before .before .before in last-row _ (p .before .before .before .pre .0 .cornered) _ (p .peak .ensures)
 
-of-row-requires : tie.Need-of-row-requires Inv-loop μ-loop
-of-row-requires c κs = let g = c .before .before .before in
-    rowed _ (g .before .before .before .pre .0 .cornered) (some (g .before)) _ (g .greatest .ensures) _ (c .before .loop .inv .between .from) (c .loop-test .taken)
+of-next-requires : tie.Need-of-next-requires Inv-loop μ-loop
+of-next-requires c κs = let p = c .before .before .before .before .before in
+    peaked _ (p .before .before .before .pre .0 .cornered) _ (p .peak .ensures) _ (c .before .loop .inv .between .from) (c .loop-test .taken)
 
 placed-requires : tie.Need-placed-requires Inv-loop μ-loop
-placed-requires c κs = omega (arith, few (c .before .before), c .before .loop-test .taken)
+placed-requires c κs = omega (arith, few (c .before .before .before), c .before .before .loop-test .taken)
 
 run-requires : tie.Need-run-requires Inv-loop μ-loop
-run-requires c κs = c .before .before .before .loop .inv .leads .upto
+run-requires c κs = c .before .before .before .before .loop .inv .leads .upto
 
 -- the points of the row
-held : (c : tie.After-run Inv-loop μ-loop) → let l = c .before .before .before .before in
-    Holds (points (now (l .before .before .before .before .before .args .list))) (placed (l .loop .y)) (l .loop .begin) (c .run .result)
-held c = let l = c .before .before .before .before in
-    let a = l .before .before .before .before .before in
+held : (c : tie.After-run Inv-loop μ-loop) → let l = c .before .before .before .before .before in
+    Holds (points (now (l .before .before .before .before .before .before .before .args .list))) (placed (l .loop .y)) (l .loop .begin) (c .run .result)
+held c = let l = c .before .before .before .before .before in
+    let a = l .before .before .before .before .before .before .before in
     ends-hold _ _ _ _ (a .pre .0 .order) (l .loop .inv .leads)
     (subst (λ y. RunsTo (points (now (a .args .list))) y (l .loop .begin) (c .run .result))
     (read-back (c .before .placed .result) (record { sfits = c .before .placed .ok }) ∙ c .before .placed .ensures) (c .run .ensures))
 
--- the row's points lie in the list
-inside : (c : tie.After-run Inv-loop μ-loop) → let l = c .before .before .before .before in
-    2 * c .run .result ≤ length (now (l .before .before .before .before .before .args .list))
-inside c = let l = c .before .before .before .before in
-    omega (arith, held c .inside, points-length (now (l .before .before .before .before .before .args .list)))
+-- they lie in the list
+inside : (c : tie.After-run Inv-loop μ-loop) → let l = c .before .before .before .before .before in 2 * c .run .result ≤ length (now (l .before .before .before .before .before .before .before .args .list))
+inside c = let l = c .before .before .before .before .before in
+    omega (arith, held c .inside, points-length (now (l .before .before .before .before .before .before .before .args .list)))
 
 mul-write-row : tie.Need-mul-write-row Inv-loop μ-loop
 mul-write-row c = omega (arith, inside c, held c .rising)
@@ -88,62 +97,62 @@ part-write-row-end : tie.Need-part-write-row-end Inv-loop μ-loop
 part-write-row-end c = inside c
 
 used : (c : tie.At-loop Inv-loop μ-loop) → 2 * c .loop .used ≤ length (c .loop .room)
-used c = let g = c .before .before in
-    let a = g .before .before .before in
-    written-used _ _ (a .pre .0) (some (g .before)) _ (g .greatest .ensures) _ (a .pre .1) _ _ _ _ (c .loop .inv)
+used c = let p = c .before .before .before .before in
+    let a = p .before .before .before in
+    written-used _ _ (a .pre .0) _ (p .peak .ensures) _ (a .pre .1) _ _ _ _ (c .loop .inv)
 
-long : (c : tie.At-loop Inv-loop μ-loop) → length (c .loop .room) ≡ length (now (c .before .before .before .before .before .args .room))
-long c = let g = c .before .before in
-    let a = g .before .before .before in
-    written-length _ _ (a .pre .0) (some (g .before)) _ (g .greatest .ensures) _ (a .pre .1) _ _ _ _ (c .loop .inv)
+long : (c : tie.At-loop Inv-loop μ-loop) → length (c .loop .room) ≡ length (now (c .before .before .before .before .before .before .before .args .room))
+long c = let p = c .before .before .before .before in
+    let a = p .before .before .before in
+    written-length _ _ (a .pre .0) _ (p .peak .ensures) _ (a .pre .1) _ _ _ _ (c .loop .inv)
 
 mul-write-row-4 : tie.Need-mul-write-row-4 Inv-loop μ-loop
-mul-write-row-4 c = omega (arith, used (c .before .before .before .before .before), long (c .before .before .before .before .before))
+mul-write-row-4 c = omega (arith, used (c .before .before .before .before .before .before), long (c .before .before .before .before .before .before))
 
 mul-write-row-5 : tie.Need-mul-write-row-5 Inv-loop μ-loop
-mul-write-row-5 c = omega (arith, used (c .before .before .before .before .before), long (c .before .before .before .before .before))
+mul-write-row-5 c = omega (arith, used (c .before .before .before .before .before .before), long (c .before .before .before .before .before .before))
 
 sub-write-row-2 : tie.Need-sub-write-row-2 Inv-loop μ-loop
-sub-write-row-2 c = used (c .before .before .before .before .before)
+sub-write-row-2 c = used (c .before .before .before .before .before .before)
 
 part-write-row-start-2 : tie.Need-part-write-row-start-2 Inv-loop μ-loop
-part-write-row-start-2 c = used (c .before .before .before .before .before)
+part-write-row-start-2 c = used (c .before .before .before .before .before .before)
 
 part-write-row-end-2 : tie.Need-part-write-row-end-2 Inv-loop μ-loop
 part-write-row-end-2 c = omega arith
 
 write-row-requires : tie.Need-write-row-requires Inv-loop μ-loop
 write-row-requires c κs = let r = c .before .before in
-    let l = r .before .before .before .before in
-    let g = l .before .before in
-    let a = g .before .before .before in (
-      row-is _ _ (a .pre .0) _ _ _ _ (r .before .before .of-row .ensures) (held r),
-      omega (arith, few l, r .before .before .before .loop-test .taken),
-      written-room _ _ (a .pre .0) (some (g .before)) _ (g .greatest .ensures) _ (a .pre .1) _ _ _ _ (l .loop .inv) (r .before .before .before .loop-test .taken) _ (r .before .before .of-row .ensures) _ (held r),
+    let l = r .before .before .before .before .before in
+    let p = l .before .before .before .before in
+    let a = p .before .before .before in (
+      row-is _ _ (a .pre .0) _ _ _ _ (r .before .before .before .of-next .ensures) (held r),
+      omega (arith, few l, r .before .before .before .before .loop-test .taken),
+      written-room _ _ (a .pre .0) _ (p .peak .ensures) _ (a .pre .1) _ _ _ _ (l .loop .inv) (r .before .before .before .before .loop-test .taken) _ (r .before .before .before .of-next .ensures) _ (held r),
     )
 
 -- one row more is written
 next : tie.Need-loop-again Inv-loop μ-loop
 next c = let r = c .before .before .before .before in
-    let l = r .before .before .before .before in
-    let g = l .before .before in
-    let a = g .before .before .before in
-    written-more _ _ (a .pre .0) (some (g .before)) _ (g .greatest .ensures) _ (a .pre .1) _ _ _ _ (l .loop .inv) (r .before .before .before .loop-test .taken) _ (r .before .before .of-row .ensures) _ (held r) _ _ (c .before .write-row .ensures)
+    let l = r .before .before .before .before .before in
+    let p = l .before .before .before .before in
+    let a = p .before .before .before in
+    written-more _ _ (a .pre .0) _ (p .peak .ensures) _ (a .pre .1) _ _ _ _ (l .loop .inv) (r .before .before .before .before .loop-test .taken) _ (r .before .before .before .of-next .ensures) _ (held r) _ _ (c .before .write-row .ensures)
 
 add-used : tie.Need-add-used Inv-loop μ-loop
-add-used c = let g = c .before .before .before .before .before .before .before .before .before .before in
-    let a = g .before .before .before in
+add-used c = let p = c .before .before .before .before .before .before .before .before .before .before .before .before .before in
+    let a = p .before .before .before in
     omega (
       arith,
-      written-used _ _ (a .pre .0) (some (g .before)) _ (g .greatest .ensures) _ (a .pre .1) _ _ _ _ (next c),
-      written-length _ _ (a .pre .0) (some (g .before)) _ (g .greatest .ensures) _ (a .pre .1) _ _ _ _ (next c),
+      written-used _ _ (a .pre .0) _ (p .peak .ensures) _ (a .pre .1) _ _ _ _ (next c),
+      written-length _ _ (a .pre .0) _ (p .peak .ensures) _ (a .pre .1) _ _ _ _ (next c),
     )
 
 add-y : tie.Need-add-y Inv-loop μ-loop
-add-y c = let l = c .before .before .before .before .before .before .before .before in omega (arith, few l, c .before .before .before .before .before .before .before .loop-test .taken)
+add-y c = omega (arith, few (c .before .before .before .before .before .before .before .before .before), c .before .before .before .before .before .before .before .before .loop-test .taken)
 
 loop-less : tie.Need-loop-less Inv-loop μ-loop
-loop-less c = omega (arith, c .before .before .before .before .before .before .before .loop-test .taken)
+loop-less c = omega (arith, c .before .before .before .before .before .before .before .before .loop-test .taken)
 
 loop-again : tie.Need-loop-again Inv-loop μ-loop
 loop-again c = next c
@@ -152,9 +161,9 @@ same-length : tie.Need-same-length Inv-loop μ-loop
 same-length c = long (c .before)
 
 returns-2 : tie.Need-returns-2 Inv-loop μ-loop
-returns-2 c = let g = c .before .before .before in
-    let a = g .before .before .before in
-    written-all _ _ (a .pre .0) (some (g .before)) _ (g .greatest .ensures) _ (a .pre .1) _ _ _ _ (c .before .loop .inv) (omega (arith, c .loop-test .left))
+returns-2 c = let p = c .before .before .before .before .before in
+    let a = p .before .before .before in
+    written-all _ _ (a .pre .0) _ (p .peak .ensures) _ (a .pre .1) _ _ _ _ (c .before .loop .inv) (omega (arith, c .loop-test .left))
 
 pub write-spec : {M : Type 1} → statement M
 write-spec =
@@ -163,10 +172,13 @@ write-spec =
     Inv-loop
     μ-loop
     returns
-    greatest-requires
+    peak-requires
+    mul-last
+    shared-slice-read-last
+    start-requires
     shared-slice-read-y
     loop-holds
-    of-row-requires
+    of-next-requires
     placed-requires
     run-requires
     mul-write-row
