@@ -1,0 +1,2 @@
+-- Laws of quotients that are rounded once.
+pub mod Rounding
