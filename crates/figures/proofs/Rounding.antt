@@ -72,6 +72,10 @@ pub read-rounds-once : (z : ℤ) (d : ℕ) → SFits w32 z → 0 < d → d ≤ e
 read-rounds-once z d f p k =
     ap (λ w. div binary64 (ofInt binary64 w) (ofInt binary64 (pos d))) (toZ-ofZ w32 z f) ∙ rounds-once z d (signed-exact z f) p k
 
+-- a quotient of what was read back, and of equal numbers
+pub read-rounded : (z : ℤ) → SFits w32 z → {w : ℤ} {d n : ℕ} → z ≡ w → d ≡ n → rounded (toZ w32 (ofZ w32 z)) d ≡ rounded w n
+read-rounded z f e g = let r = toZ-ofZ w32 z f ∙ e in λ i. rounded (r i) (g i)
+
 -- ---- 1.0
 abbrev pub one : Float
 one = fin false 1 (pos 0)

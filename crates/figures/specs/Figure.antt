@@ -1,12 +1,14 @@
 -- The two figures of a set of points (document 01, "Figures"). Assumes nothing.
 use mathlib.Core.Path.{_≡_}
-use mathlib.Core.List.{List, [], _∷_}
-use Prim.Native.Nat.{ℕ, zero, suc, _≤_}
+use mathlib.Core.List.{List, [], _∷_, map}
+use Prim.Native.Nat.{ℕ, zero, suc, _≤_, _<_}
 use lib.ListN.{length}
 use lib.IntN.{ℤ, pos, _+ℤ_}
 use lib.Ieee.{Float}
 use Rattle.lattice.specs.Point.{Point, InRange, most, points, All, Lists}
-use Rattle.lattice.specs.Hull.{InHull, Of}
+use Rattle.lattice.specs.Hull.{InHull, Of, CornerList}
+use Rattle.packed.specs.Packed.{unpacked}
+use Rattle.order.specs.Keys.{Below}
 use Rattle.figures.specs.declared.Centroid.{Centroid}
 use Rattle.figures.specs.Quotient.{rounded}
 
@@ -30,7 +32,13 @@ pub record Solidity (s : List Point) (d : Float) : Type 0 where
   pub listed : Lists (InHull (Of s)) lattice
   pub quotient : d ≡ rounded (pos (length s)) (length lattice)
 
--- a list that passes rows 2 and 3 of the refusals: its sums fit
+-- some points in range, not too many: their sums fit
 pub record Summable (list : List ℤ) : Type 0 where
+  pub some : 0 < length (points list)
   pub few : length (points list) ≤ most
   pub range : All InRange (points list)
+
+-- the packed corners of s
+pub record Outlines (s : List Point) (corners : List ℕ) : Type 0 where
+  pub below : Below corners
+  pub corner : CornerList s (map unpacked corners)
