@@ -14,7 +14,6 @@ use Rattle.hull.specs.Hull.{hullRows, HullResult, HullPromise}
 use Rattle.hull.specs.Found.{HullKeys, FindsHull}
 use Rattle.hull.proofs.Hulling.{hull-passes, hull-declined, accepted-keys}
 use Rattle.figures.specs.declared.Centroid.{Centroid}
-use Rattle.figures.specs.declared.Figured.{Figured}
 use Rattle.figures.specs.declared.Figured.the-variants.{Refused, None, Given}
 use Rattle.figures.specs.Figure.{centroidOf, Solidity, Summable, Outlines}
 use Rattle.figures.specs.Figures.{FiguresPromise}

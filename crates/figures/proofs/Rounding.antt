@@ -3,14 +3,14 @@
 use mathlib.Core.Path.{_≡_, refl, sym, ap, _∙_, subst}
 use mathlib.Core.Logic.{_⊎_, _↔_, inl, inr}
 use mathlib.Core.Bool.{Bool, true, false, cond, true≢false}
-use Prim.Native.Nat.{ℕ, suc, _+_, _-_, _*_, _^_, _≤_, _<_}
-use native.Mathlib.Nat.{mul-one, one-mul, mul-pos, mul-comm, mul-assoc, mul-left-comm, zero-mul, eq-or-lt-of-le, le-mul-of-pos-right}
+use Prim.Native.Nat.{ℕ, suc, _-_, _*_, _^_, _≤_, _<_}
+use native.Mathlib.Nat.{mul-one, one-mul, mul-pos, mul-comm, mul-assoc, mul-left-comm, eq-or-lt-of-le, le-mul-of-pos-right}
 use native.Mathlib.Omega.{arith}
 use borrow.Author.Tests.{ne-eqb}
 use lib.Dec.{T, eqb, ltb, lit<, le→leb, lt→ltb}
 use lib.IntN.{ℤ, pos, negsuc, natAbs}
-use lib.Ieee.{Float, nan, inf, fin, binary64, prec, low, up, down, unlike, size, nearest, odd, units, round, div, ofInt, lt, eq, le, inFloat, toBits}
-use lib.Ieee.Fits.{up-pos, down-pos, round-is}
+use lib.Ieee.{Float, nan, inf, fin, binary64, prec, low, up, down, unlike, size, odd, units, round, div, ofInt, lt, eq, le, inFloat, toBits}
+use lib.Ieee.Fits.{down-pos, round-is}
 use lib.Ieee.Exact.{HasValue, odd-sign}
 use lib.Ieee.Back.{round-whole}
 use lib.Ieee.Order.{drop, kept, round-mono}
@@ -61,6 +61,16 @@ pub cast-exact : (z : ℤ) → natAbs z ≤ exact → T (inFloat binary64 z)
 unfolding inFloat
 cast-exact (pos n) h = le→leb n exact h
 cast-exact (negsuc n) h = lt→ltb n exact h
+
+-- q is one division of z by d, and both are exact as doubles
+pub record Divides (z : ℤ) (d : ℕ) (q : Float) : Type 0 where
+  pub dividend : T (inFloat binary64 z)
+  pub divisor : T (inFloat binary64 (pos d))
+  pub quotient : q ≡ div binary64 (ofInt binary64 z) (ofInt binary64 (pos d))
+
+pub divides : (z : ℤ) (d : ℕ) (q : Float) → natAbs z ≤ exact → 0 < d → d ≤ exact → q ≡ rounded z d → Divides z d q
+divides z d q h p k e =
+    record { dividend = cast-exact z h; divisor = cast-exact (pos d) k; quotient = e ∙ sym (rounds-once z d h p k) }
 
 -- a signed 32-bit number is exact, and the same read back from its bits
 pub signed-exact : (z : ℤ) → SFits w32 z → natAbs z ≤ exact
@@ -120,19 +130,25 @@ value-finite nan s n d v = absurd v
 value-finite (inf t) s n d v = absurd v
 value-finite (fin t m e) s n d v = tt
 
--- the sign does not matter
+-- the sign does not matter; `round` keeps up to 54 digits, in units of 2^-1074
+abbrev digits : ℕ
+digits = suc (prec binary64)
+
+abbrev least : ℕ
+least = low binary64
+
 units-finite : (s : Bool) (q k : ℕ) → T (finite (units binary64 false q k)) → T (finite (units binary64 s q k))
 unfolding units
 units-finite s q k = by-test (ltb (q * 2 ^ k) (overflow binary64))
   where
-    by-test : (b : Bool) → T (finite (cond b (odd 54 false q k 1074) (inf false))) → T (finite (cond b (odd 54 s q k 1074) (inf s)))
-    by-test true f = value-finite (odd 54 s q k 1074) s (q * 2 ^ k) (2 ^ 1074) (odd-sign 54 s q k 1074)
+    by-test : (b : Bool) → T (finite (cond b (odd digits false q k least) (inf false))) → T (finite (cond b (odd digits s q k least) (inf s)))
+    by-test true f = value-finite (odd digits s q k least) s (q * 2 ^ k) (2 ^ least) (odd-sign digits s q k least)
     by-test false f = absurd f
 
 sign-finite : (s : Bool) (n d : ℕ) → T (finite (round binary64 false n d)) → T (finite (round binary64 s n d))
 sign-finite s n d f =
     subst (λ x. T (finite x)) (sym (round-is binary64 s n d))
-    (units-finite s (kept 53 (n * 2 ^ 1074) d) (drop 53 (n * 2 ^ 1074) d) (subst (λ x. T (finite x)) (round-is binary64 false n d) f))
+    (units-finite s (kept (prec binary64) (n * 2 ^ least) d) (drop (prec binary64) (n * 2 ^ least) d) (subst (λ x. T (finite x)) (round-is binary64 false n d) f))
 
 round-finite : (n d : ℕ) → n ≤ exact → 0 < d → T (finite (round binary64 false n d))
 unfolding round

@@ -1,16 +1,16 @@
 -- Laws of solidity, the number of points over the number of lattice points in the hull: a set of points has one; it is 1.0 exactly if the
 -- set is convex; and it is what the code divides. Assumes nothing.
-use mathlib.Core.Path.{_≡_, refl, sym, _∙_, ap, subst}
+use mathlib.Core.Path.{_≡_, sym, _∙_, ap, subst}
 use mathlib.Core.Logic.{_↔_}
-use mathlib.Core.List.{List, [], _∷_, map}
-use Prim.Native.Nat.{ℕ, suc, _+_, _≤_, _<_}
+use mathlib.Core.List.{List, map}
+use Prim.Native.Nat.{ℕ, _+_, _≤_, _<_}
 use native.Mathlib.Omega.{arith}
 use lib.Dec.{T}
 use lib.ListN.{length, drop-of-length-le}
 use lib.IntN.{ℤ, pos}
 use lib.Ieee.{Float}
 use lib.Ieee.Scale.{finite}
-use Rattle.lattice.specs.Point.{Point, InRange, points, point, In, All, Pairs, Lists}
+use Rattle.lattice.specs.Point.{Point, InRange, points, point, All, Pairs, Lists}
 use Rattle.lattice.specs.Hull.{InHull, member, Of, MissingList, Convex}
 use Rattle.lattice.proofs.Lists.{all-in}
 use Rattle.lattice.proofs.Places.{place-in, in-place}
@@ -23,7 +23,7 @@ use Rattle.packed.proofs.KeyLaws.{lists-small}
 use Rattle.walk.specs.Walk.{HullOf, Cornered, CountOf}
 use Rattle.figures.specs.Quotient.{exact, rounded}
 use Rattle.figures.specs.Figure.{Solidity, Summable, Outlines}
-use Rattle.figures.proofs.Rounding.{one, one-exactly, quotient-finite}
+use Rattle.figures.proofs.Rounding.{Divides, divides, one, one-exactly, quotient-finite}
 
 pub solidity-unique : (s : List Point) (d e : Float) → Solidity s d → Solidity s e → d ≡ e
 solidity-unique s d e h g =
@@ -55,11 +55,17 @@ module _ (s : List Point) (some : 0 < length s) (range : All InRange s) (once : 
         (λ c. h .quotient ∙ equal .1 (omega (arith, count m listed, ap length (convex .0 c)))),
       )
 
+  -- the points are no more than the lattice points, so their number is exact too
+  points-exact : length s ≤ exact
+  points-exact = let (m, listed) = missing-list-exists s in omega (arith, few, count m listed)
+
+  pub solidity-divides : Divides (pos (length s)) (length (h .lattice)) d
+  solidity-divides = divides (pos (length s)) (length (h .lattice)) d points-exact (lattice-some s some range (h .lattice) (h .listed)) few (h .quotient)
+
   pub solidity-finite : T (finite d)
   solidity-finite =
-      let (m, listed) = missing-list-exists s in
       subst (λ x. T (finite x)) (sym (h .quotient))
-      (quotient-finite (pos (length s)) (length (h .lattice)) (omega (arith, few, count m listed)) (lattice-some s some range (h .lattice) (h .listed)))
+      (quotient-finite (pos (length s)) (length (h .lattice)) points-exact (lattice-some s some range (h .lattice) (h .listed)))
 
 -- ---- as the code divides
 module _ (list : List ℤ) (corners : List ℕ) (h : Summable list) (o : Outlines (points list) corners) where

@@ -1,5 +1,5 @@
--- Laws of the loop that sums a coordinate: what is summed so far, and that it stays small. Assumes nothing.
-use mathlib.Core.Path.{_≡_, refl, sym, _∙_, ap, subst}
+-- Sums of coordinates stay small, and the laws of the loop that sums. Assumes nothing.
+use mathlib.Core.Path.{_≡_, sym, _∙_, ap, subst}
 use mathlib.Core.List.{List, [], _∷_}
 use Prim.Native.Nat.{ℕ, zero, suc, _+_, _*_, _≤_, _<_}
 use native.Mathlib.Numerals.{add-one}
@@ -13,7 +13,7 @@ use Rattle.whole.proofs.Whole.{quote, gap≤, linear≤}
 use Rattle.lattice.specs.Point.{Point, origin, InRange, most, points, point, All}
 use Rattle.lattice.proofs.Numbers.{points-at}
 use Rattle.lattice.proofs.Places.{all-place}
-use Rattle.packed.specs.Packed.{Within}
+use Rattle.packed.specs.Packed.{offset, Within}
 use Rattle.packed.proofs.Small.{within-sum, within-fits}
 use Rattle.packed.proofs.Tests.{read-back}
 use Rattle.figures.specs.Figure.{coordinate, sum, Summable}
@@ -33,17 +33,27 @@ read-coordinate list i k h l f = read-back (getD list (2 * i + k) (pos 0)) f ∙
         never k l = omega arith
 
 -- a coordinate in range is at most 8,192 by magnitude
-coordinate-within : (k : ℕ) (p : Point) → InRange p → Within 8192 (coordinate k p)
+coordinate-within : (k : ℕ) (p : Point) → InRange p → Within offset (coordinate k p)
 coordinate-within zero p r =
     record { low = r .x-from; high = linear≤ (p .x ∷ []) (gap≤ (r .x-to)) (search quote depth 20) tt }
 coordinate-within (suc k) p r =
     record { low = r .y-from; high = linear≤ (p .y ∷ []) (gap≤ (r .y-to)) (search quote depth 20) tt }
 
+pub sum-within : (k : ℕ) (s : List Point) → All InRange s → Within (offset * length s) (sum (coordinate k) s)
+sum-within k [] r = record { low = record { le = tt }; high = record { le = tt } }
+sum-within k (p ∷ s) r =
+    let n : offset + offset * length s ≡ offset * suc (length s) = omega arith in
+    subst (λ m. Within m (sum (coordinate k) (p ∷ s))) n
+    (within-sum offset (offset * length s) (coordinate-within k p (r .0)) (sum-within k s (r .1)))
+
+pub sum-fits : (k : ℕ) (s : List Point) → All InRange s → length s ≤ most → SFits w32 (sum (coordinate k) s)
+sum-fits k s r few = within-fits w32 (offset * length s) (sum-within k s r) (omega arith)
+
 -- the coordinates of the first i points are summed
 pub record Summed (k : ℕ) (s : List Point) (i : ℕ) (total : ℤ) : Type 0 where
   pub upto : i ≤ length s
   pub rest : sum (coordinate k) s ≡ total +ℤ sum (coordinate k) (drop i s)
-  pub small : Within (8192 * i) total
+  pub small : Within (offset * i) total
 
 module _ (k : ℕ) (list : List ℤ) (h : Summable list) where
   pub summed-none : Summed k (points list) 0 (pos 0)
@@ -55,15 +65,15 @@ module _ (k : ℕ) (list : List ℤ) (h : Summable list) where
 
   module _ (i : ℕ) (total : ℤ) (d : Summed k (points list) i total) where
     module _ (l : i < length (points list)) (z : ℤ) (e : z ≡ coordinate k (point (points list) i)) where
-      next-small : Within (8192 * (i + 1)) (total +ℤ z)
+      next-small : Within (offset * (i + 1)) (total +ℤ z)
       next-small =
-          let n : 8192 * i + 8192 ≡ 8192 * (i + 1) = omega arith in
+          let n : offset * i + offset ≡ offset * (i + 1) = omega arith in
           let r = all-place InRange (points list) (h .range) i l in
           subst (λ m. Within m (total +ℤ z)) n
-          (within-sum (8192 * i) 8192 (d .small) (subst (Within 8192) (sym e) (coordinate-within k (point (points list) i) r)))
+          (within-sum (offset * i) offset (d .small) (subst (Within offset) (sym e) (coordinate-within k (point (points list) i) r)))
 
       pub summed-fits : SFits w32 (total +ℤ z)
-      summed-fits = within-fits w32 (8192 * (i + 1)) next-small (omega (arith, h .few))
+      summed-fits = within-fits w32 (offset * (i + 1)) next-small (omega (arith, h .few))
 
       next-rest : sum (coordinate k) (points list) ≡ (total +ℤ z) +ℤ sum (coordinate k) (drop (i + 1) (points list))
       next-rest =

@@ -1,10 +1,7 @@
+-- `figures::centroid_of` meets its contract: two means. Assumes nothing.
 use borrow.Author.Needs.{needs}
 use Rattle.figures.proofs.centroid_of.Statement.{statement}
 use Rattle.figures.proofs.centroid_of.Tie as tie
-use Rattle.figures.proofs.centroid_of.Reads as reads
-use Rattle.figures.proofs.centroid_of.Lts as lts
-use Rattle.figures.proofs.mean.Reads as mean-reads
-
 
 mean-requires : tie.Need-mean-requires
 mean-requires c κs = search needs

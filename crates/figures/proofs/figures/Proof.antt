@@ -1,15 +1,10 @@
+-- `figures::figures` meets its contract: each tier has space enough. Assumes nothing.
 use borrow.Author.Needs.{needs}
 use Rattle.figures.proofs.figures.Statement.{statement}
 use Rattle.figures.proofs.figures.Tie as tie
-use Rattle.figures.proofs.figures.Reads as reads
-use Rattle.figures.proofs.figures.Lts as lts
-use Rattle.figures.proofs.figures_few.Reads as figures-few-reads
-use Rattle.figures.proofs.figures_many.Reads as figures-many-reads
-use Rattle.figures.proofs.figures_some.Reads as figures-some-reads
 use native.Mathlib.Omega.{arith}
 use denote.Ref.{now}
 use Rattle.lattice.proofs.Numbers.{points-length}
-
 
 figures-few-requires : tie.Need-figures-few-requires
 figures-few-requires c κs = λ h. omega (arith, h, points-length (now (c .before .before .before .args .list)))

@@ -1,11 +1,8 @@
+-- `figures::figures_few` meets its contract: space enough for 64 points. Assumes nothing.
 use borrow.Author.Needs.{needs}
 use Rattle.figures.proofs.figures_few.Statement.{statement}
 use Rattle.figures.proofs.figures_few.Tie as tie
-use Rattle.figures.proofs.figures_few.Reads as reads
-use Rattle.figures.proofs.figures_few.Lts as lts
-use Rattle.figures.proofs.figures_in.Reads as figures-in-reads
 use native.Mathlib.Omega.{arith}
-
 
 slice-aggregate-figures-in : tie.Need-slice-aggregate-figures-in
 slice-aggregate-figures-in c = search needs

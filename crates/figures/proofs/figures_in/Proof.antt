@@ -1,14 +1,9 @@
+-- `figures::figures_in` meets its contract: what find tells, both rooms written, and the figures. Assumes nothing.
 use borrow.Author.Needs.{needs}
 use Rattle.figures.proofs.figures_in.Statement.{statement}
 use Rattle.figures.proofs.figures_in.Tie as tie
-use Rattle.figures.proofs.figures_in.Reads as reads
-use Rattle.figures.proofs.figures_in.Lts as lts
-use Rattle.figures.proofs.centroid_of.Reads as centroid-of-reads
-use Rattle.figures.proofs.solidity_of.Reads as solidity-of-reads
-use Rattle.hull.proofs.find.Reads as find-reads
-use Rattle.hull.proofs.write.Reads as write-reads
 use Prim.Native.Nat.{ℕ}
-use mathlib.Core.Path.{_≡_, sym}
+use mathlib.Core.Path.{sym}
 use mathlib.Core.List.{List}
 use denote.Ref.{now}
 use lib.Seq.{length-take-le}
@@ -45,8 +40,6 @@ keys-of c = c .find .last .1 .1 .1 .1 .1 .0
 abbrev stack-of : tie.After-find → List ℕ
 stack-of c = c .find .last .1 .1 .1 .1 .1 .1 .0
 
-
-
 find-requires : tie.Need-find-requires
 find-requires c κs = search needs
 
@@ -77,7 +70,6 @@ held : (c : tie.Else1) → let f = accepted-find c in
     HullKeys (points (list-of f)) (ordered-of f) (corners-of f) (f .find .result .points) (f .find .result .corners) (keys-of f) (stack-of f)
 held c = let f = accepted-find c in
     found (list-of f) (ordered-of f) (corners-of f) (f .find .result .number) (f .find .result .place) _ _ (keys-of f) (stack-of f) (c .if1 .left) (f .find .ensures)
-
 
 slice-reshare-prefix-write : tie.Need-slice-reshare-prefix-write
 slice-reshare-prefix-write c = held c .keys-long
@@ -125,7 +117,6 @@ written : (c : tie.After-write) → let f = accepted-find (before-writing c) in
 written c = let f = accepted-find (before-writing c) in
     hull-done (list-of f) (ordered-of f) (corners-of f) (keys-of f) (stack-of f) (f .find .result .number) (f .find .result .place) _ _ (before-writing c .if1 .left) (f .find .ensures) _ _ (c .write .ensures)
 
-
 returns-2 : tie.Need-returns-2
 returns-2 c = let w = c .before .before .before in
     let f = accepted-find (before-writing w) in
@@ -135,7 +126,6 @@ summable : (c : tie.Else2) → Summable (list-of (accepted-find (before-writing 
 summable c = let e = before-writing (c .before .before .before) in
     let f = accepted-find e in
     found-summable (list-of f) (ordered-of f) (corners-of f) (f .find .result .number) (f .find .result .place) _ _ (keys-of f) (stack-of f) (e .if1 .left) (f .find .ensures) (c .if2 .left)
-
 
 centroid-of-requires : tie.Need-centroid-of-requires
 centroid-of-requires c κs = summable c

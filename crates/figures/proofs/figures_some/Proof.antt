@@ -1,11 +1,8 @@
+-- `figures::figures_some` meets its contract: space enough for 512 points. Assumes nothing.
 use borrow.Author.Needs.{needs}
 use Rattle.figures.proofs.figures_some.Statement.{statement}
 use Rattle.figures.proofs.figures_some.Tie as tie
-use Rattle.figures.proofs.figures_some.Reads as reads
-use Rattle.figures.proofs.figures_some.Lts as lts
-use Rattle.figures.proofs.figures_in.Reads as figures-in-reads
 use native.Mathlib.Omega.{arith}
-
 
 slice-aggregate-figures-in : tie.Need-slice-aggregate-figures-in
 slice-aggregate-figures-in c = search needs

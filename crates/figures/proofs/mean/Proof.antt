@@ -1,16 +1,12 @@
+-- `figures::mean` meets its contract: the sum fits, and so does the number of points. Assumes nothing.
 use borrow.Author.Needs.{needs}
 use Rattle.figures.proofs.mean.Statement.{statement}
 use Rattle.figures.proofs.mean.Tie as tie
-use Rattle.figures.proofs.mean.Reads as reads
-use Rattle.figures.proofs.mean.Lts as lts
-use Rattle.figures.proofs.quotient.Reads as quotient-reads
-use Rattle.figures.proofs.sum.Reads as sum-reads
 use mathlib.Core.Path.{_∙_, sym}
 use native.Mathlib.Omega.{arith}
 use denote.Ref.{now}
 use Rattle.lattice.proofs.Numbers.{points-length}
 use Rattle.figures.proofs.Rounding.{read-rounded}
-
 
 sum-requires : tie.Need-sum-requires
 sum-requires c κs = search needs

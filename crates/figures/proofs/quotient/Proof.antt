@@ -1,11 +1,9 @@
+-- `figures::quotient` meets its contract: both casts are exact, and the division rounds once. Assumes nothing.
 use borrow.Author.Needs.{needs}
 use Rattle.figures.proofs.quotient.Statement.{statement}
 use Rattle.figures.proofs.quotient.Tie as tie
-use Rattle.figures.proofs.quotient.Reads as reads
-use Rattle.figures.proofs.quotient.Lts as lts
 use lib.IntN.{pos}
 use Rattle.figures.proofs.Rounding.{cast-exact, read-rounds-once}
-
 
 int-to-float-result : tie.Need-int-to-float-result
 int-to-float-result c = search needs

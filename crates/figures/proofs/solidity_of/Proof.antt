@@ -1,9 +1,6 @@
+-- `figures::solidity_of` meets its contract: the lattice points of the hull are counted, and their number is exact. Assumes nothing.
 use Rattle.figures.proofs.solidity_of.Statement.{statement}
 use Rattle.figures.proofs.solidity_of.Tie as tie
-use Rattle.figures.proofs.solidity_of.Reads as reads
-use Rattle.figures.proofs.solidity_of.Lts as lts
-use Rattle.figures.proofs.quotient.Reads as quotient-reads
-use Rattle.walk.proofs.count.Reads as count-reads
 use Prim.Native.Nat.{_/_}
 use mathlib.Core.Path.{_∙_, sym, ap}
 use native.Mathlib.Omega.{arith}
@@ -15,7 +12,6 @@ use mir.ValLaws.{toZ-pos}
 use Rattle.lattice.proofs.Numbers.{points-length}
 use Rattle.figures.specs.Quotient.{rounded}
 use Rattle.figures.proofs.Solidity.{outline-cornered, counted-exact, counted-solidity}
-
 
 cast-quotient : tie.Need-cast-quotient
 cast-quotient c = let a = c .before in

@@ -1,8 +1,7 @@
+-- `figures::sum` meets its contract: a turn of the loop adds one coordinate more. Assumes nothing.
 use Rattle.figures.proofs.sum.Statement.{statement}
 use Rattle.figures.proofs.sum.Tie as tie
-use Rattle.figures.proofs.sum.Reads as reads
-use Rattle.figures.proofs.sum.Lts as lts
-use Prim.Native.Nat.{ℕ, _-_, _+_, _*_, _<_}
+use Prim.Native.Nat.{_-_, _+_, _*_, _<_}
 use mathlib.Core.Path.{_≡_}
 use native.Mathlib.Omega.{arith}
 use denote.Ref.{now}
@@ -14,7 +13,6 @@ use Rattle.lattice.specs.Point.{points, point}
 use Rattle.lattice.proofs.Numbers.{points-length}
 use Rattle.figures.specs.Figure.{coordinate}
 use Rattle.figures.proofs.Summing.{Summed, read-coordinate, summed-none, summed-fits, summed-more, summed-ends}
-
 
 abbrev Inv-loop : tie.InvT-loop
 Inv-loop list coordinate n total₀ i₀ total i = Summed coordinate (points list) i (toZ w32 total)
@@ -47,7 +45,6 @@ is-coordinate : (c : tie.After-total Inv-loop μ-loop)
     ≡ coordinate (s .args .coordinate) (point (points (now (s .args .list))) (c .before .before .loop .i))
 is-coordinate c = let s = c .before .before .before in
     read-coordinate (now (s .args .list)) (c .before .before .loop .i) (s .args .coordinate) (inside c) (s .pre .1) (record { sfits = c .total .given })
-
 
 add-total-2 : tie.Need-add-total-2 Inv-loop μ-loop
 add-total-2 c = let s = c .before .before .before in
