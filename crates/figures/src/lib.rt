@@ -27,10 +27,9 @@ fn sum(list: &[i32], coordinate: usize) -> i32
     requires { ⌜ Summable (now list) × (coordinate < 2) ⌝ }
     ensures { λ r. ⌜ r ≡ sumOf (coordinateOf coordinate) (points (now (list .entry))) ⌝ }
 {
-    let n = list.len() / 2;
     let mut total: i32 = 0;
     let mut i: usize = 0;
-    while i < n {
+    while i < list.len() / 2 {
         total += list[2 * i + coordinate];
         i += 1;
     }
@@ -70,7 +69,8 @@ fn solidity_of(list: &[i32], corners: &[u32]) -> f64
     ensures { λ r. ⌜ Solidity (points (now (list .entry))) r ⌝ }
 {
     let n = list.len() / 2;
-    quotient(n as i32, walk::count(corners))
+    let lattice = walk::count(corners);
+    quotient(n as i32, lattice)
 }
 
 // Figures, in working space that is lent.

@@ -2,43 +2,18 @@
 use borrow.Author.Needs.{needs}
 use Rattle.figures.proofs.figures_in.Statement.{statement}
 use Rattle.figures.proofs.figures_in.Tie as tie
-use Prim.Native.Nat.{ℕ}
 use mathlib.Core.Path.{sym}
-use mathlib.Core.List.{List}
-use denote.Ref.{now}
-use lib.Seq.{length-take-le}
-use lib.IntN.{ℤ}
-use Rattle.lattice.specs.Point.{points}
-use Rattle.hull.specs.Hull.{HullPromise}
-use Rattle.hull.specs.Found.{HullKeys}
-use Rattle.hull.proofs.Hulling.{hull-done, shown-points, shown-corners}
-use Rattle.figures.specs.Figure.{Summable}
-use Rattle.figures.proofs.Figuring.{figures-declined, found, found-summable, found-outlines, figures-none, figures-given}
+use Rattle.figures.proofs.Figuring.{figures-declined, found, keys-taken, corners-taken, rooms-suffice, summable, outlines, figures-none, figures-given}
 
--- where `find` has told of the list, in the branch that refuses and in the one that accepts
+-- where `find` has told of the list, seen from the two branches on its number, and from behind the rooms
 abbrev declined-find : tie.Then1 → tie.After-find
 declined-find c = c .before .before .before .before .before .before .before .before .before
 
 abbrev accepted-find : tie.Else1 → tie.After-find
 accepted-find c = c .before .before .before .before .before .before .before .before .before
 
-abbrev start : tie.After-find → tie.Start
-start c = c .before .before .before .before .before .before .before .before .before .before .before
-
-abbrev list-of : tie.After-find → List ℤ
-list-of c = now (start c .args .list)
-
-abbrev ordered-of : tie.After-find → List ℤ
-ordered-of c = now (start c .args .ordered)
-
-abbrev corners-of : tie.After-find → List ℤ
-corners-of c = now (start c .args .corners)
-
-abbrev keys-of : tie.After-find → List ℕ
-keys-of c = c .find .last .1 .1 .1 .1 .1 .0
-
-abbrev stack-of : tie.After-find → List ℕ
-stack-of c = c .find .last .1 .1 .1 .1 .1 .1 .0
+abbrev before-rooms : tie.After-write → tie.Else1
+before-rooms c = c .before .before .before .before .before
 
 find-requires : tie.Need-find-requires
 find-requires c κs = search needs
@@ -62,33 +37,26 @@ same-length-6 : tie.Need-same-length-6
 same-length-6 c = search needs
 
 returns : tie.Need-returns
-returns c = let f = declined-find c in
-    figures-declined (list-of f) (ordered-of f) (corners-of f) (f .find .result .number) (f .find .result .place) _ _ (keys-of f) (stack-of f) (c .if1 .taken) (f .find .ensures)
-
--- the list is accepted: what stands in keys and stack
-held : (c : tie.Else1) → let f = accepted-find c in
-    HullKeys (points (list-of f)) (ordered-of f) (corners-of f) (f .find .result .points) (f .find .result .corners) (keys-of f) (stack-of f)
-held c = let f = accepted-find c in
-    found (list-of f) (ordered-of f) (corners-of f) (f .find .result .number) (f .find .result .place) _ _ (keys-of f) (stack-of f) (c .if1 .left) (f .find .ensures)
+returns c = figures-declined (declined-find c .find .ensures) (c .if1 .taken)
 
 slice-reshare-prefix-write : tie.Need-slice-reshare-prefix-write
-slice-reshare-prefix-write c = held c .keys-long
+slice-reshare-prefix-write c = found (accepted-find c .find .ensures) (c .if1 .left) .keys-long
 
 slice-aggregate-write : tie.Need-slice-aggregate-write
-slice-aggregate-write c = let f = accepted-find (c .before) in
-    sym (length-take-le (f .find .result .points) (keys-of f) (held (c .before) .keys-long))
+slice-aggregate-write c = let e = c .before in
+    sym (keys-taken (accepted-find e .find .ensures) (e .if1 .left))
 
 slice-reshare-prefix-write-2 : tie.Need-slice-reshare-prefix-write-2
-slice-reshare-prefix-write-2 c = held (c .before) .stack-long
+slice-reshare-prefix-write-2 c = let e = c .before in
+    found (accepted-find e .find .ensures) (e .if1 .left) .stack-long
 
 slice-aggregate-write-2 : tie.Need-slice-aggregate-write-2
-slice-aggregate-write-2 c = let f = accepted-find (c .before .before) in
-    sym (length-take-le (f .find .result .corners) (stack-of f) (held (c .before .before) .stack-long))
+slice-aggregate-write-2 c = let e = c .before .before in
+    sym (corners-taken (accepted-find e .find .ensures) (e .if1 .left))
 
 write-requires : tie.Need-write-requires
 write-requires c κs = let e = c .before .before .before .before in
-    let f = accepted-find e in
-    (shown-points (list-of f) (ordered-of f) (corners-of f) (keys-of f) (stack-of f) _ _ (held e), shown-corners (list-of f) (ordered-of f) (corners-of f) (keys-of f) (stack-of f) _ _ (held e))
+    rooms-suffice (accepted-find e .find .ensures) (e .if1 .left)
 
 same-length-7 : tie.Need-same-length-7
 same-length-7 c = search needs
@@ -108,40 +76,27 @@ same-length-11 c = search needs
 same-length-12 : tie.Need-same-length-12
 same-length-12 c = search needs
 
--- both rooms are written, as Hull writes them
-abbrev before-writing : tie.After-write → tie.Else1
-before-writing c = c .before .before .before .before .before
-
-written : (c : tie.After-write) → let f = accepted-find (before-writing c) in
-    HullPromise (list-of f) (ordered-of f) (corners-of f) (f .find .result) (c .write .last .1 .1 .0) (c .write .last .1 .1 .1 .0)
-written c = let f = accepted-find (before-writing c) in
-    hull-done (list-of f) (ordered-of f) (corners-of f) (keys-of f) (stack-of f) (f .find .result .number) (f .find .result .place) _ _ (before-writing c .if1 .left) (f .find .ensures) _ _ (c .write .ensures)
-
 returns-2 : tie.Need-returns-2
 returns-2 c = let w = c .before .before .before in
-    let f = accepted-find (before-writing w) in
-    figures-none (list-of f) (ordered-of f) (corners-of f) (f .find .result .number) (f .find .result .place) _ _ (keys-of f) (stack-of f) (before-writing w .if1 .left) (f .find .ensures) _ _ (written w) (c .if2 .taken)
-
-summable : (c : tie.Else2) → Summable (list-of (accepted-find (before-writing (c .before .before .before))))
-summable c = let e = before-writing (c .before .before .before) in
-    let f = accepted-find e in
-    found-summable (list-of f) (ordered-of f) (corners-of f) (f .find .result .number) (f .find .result .place) _ _ (keys-of f) (stack-of f) (e .if1 .left) (f .find .ensures) (c .if2 .left)
+    let e = before-rooms w in
+    figures-none (accepted-find e .find .ensures) (e .if1 .left) (w .write .ensures) (c .if2 .taken)
 
 centroid-of-requires : tie.Need-centroid-of-requires
-centroid-of-requires c κs = summable c
+centroid-of-requires c κs = let e = before-rooms (c .before .before .before) in
+    summable (accepted-find e .find .ensures) (e .if1 .left) (c .if2 .left)
 
 slice-reshare-prefix-solidity-of : tie.Need-slice-reshare-prefix-solidity-of
-slice-reshare-prefix-solidity-of c = held (before-writing (c .before .before .before .before)) .stack-long
+slice-reshare-prefix-solidity-of c = let e = before-rooms (c .before .before .before .before) in
+    found (accepted-find e .find .ensures) (e .if1 .left) .stack-long
 
 slice-aggregate-solidity-of : tie.Need-slice-aggregate-solidity-of
-slice-aggregate-solidity-of c = let e = before-writing (c .before .before .before .before .before) in
-    let f = accepted-find e in
-    sym (length-take-le (f .find .result .corners) (stack-of f) (held e .stack-long))
+slice-aggregate-solidity-of c = let e = before-rooms (c .before .before .before .before .before) in
+    sym (corners-taken (accepted-find e .find .ensures) (e .if1 .left))
 
 solidity-of-requires : tie.Need-solidity-of-requires
-solidity-of-requires c κs = let e = before-writing (c .before .before .before .before .before) in
-    let f = accepted-find e in
-    (summable (c .before .before), found-outlines (list-of f) (ordered-of f) (corners-of f) (f .find .result .number) (f .find .result .place) _ _ (keys-of f) (stack-of f) (e .if1 .left) (f .find .ensures))
+solidity-of-requires c κs = let e = before-rooms (c .before .before .before .before .before) in
+    let f = accepted-find e .find .ensures in
+    (summable f (e .if1 .left) (c .before .before .if2 .left), outlines f (e .if1 .left))
 
 same-length-13 : tie.Need-same-length-13
 same-length-13 c = search needs
@@ -163,9 +118,9 @@ same-length-18 c = search needs
 
 returns-3 : tie.Need-returns-3
 returns-3 c = let w = c .before .before .before .before .before .before in
-    let f = accepted-find (before-writing w) in
-    figures-given (list-of f) (ordered-of f) (corners-of f) (f .find .result .number) (f .find .result .place) _ _ (keys-of f) (stack-of f) (before-writing w .if1 .left) (f .find .ensures) _ _ (written w)
-    (c .before .before .before .if2 .left) _ _ (c .before .before .centroid-of .ensures) (c .solidity-of .ensures)
+    let e = before-rooms w in
+    figures-given (accepted-find e .find .ensures) (e .if1 .left) (w .write .ensures) (c .before .before .before .if2 .left)
+    (c .before .before .centroid-of .ensures) (c .solidity-of .ensures)
 
 pub figures-in-spec : {M : Type 1} → statement M
 figures-in-spec =

@@ -13,13 +13,13 @@ use Rattle.lattice.proofs.Numbers.{points-length}
 use Rattle.figures.specs.Quotient.{rounded}
 use Rattle.figures.proofs.Solidity.{outline-cornered, counted-exact, counted-solidity}
 
-cast-quotient : tie.Need-cast-quotient
-cast-quotient c = let a = c .before in
-    record { sfits = omega (arith, a .pre .0 .few, points-length (now (a .args .list))) }
-
 count-requires : tie.Need-count-requires
 count-requires c κs = let a = c .before in
     outline-cornered (now (a .args .list)) (now (a .args .corners)) (a .pre .0) (a .pre .1)
+
+cast-quotient : tie.Need-cast-quotient
+cast-quotient c = let a = c .before .before in
+    record { sfits = omega (arith, a .pre .0 .few, points-length (now (a .args .list))) }
 
 quotient-requires : tie.Need-quotient-requires
 quotient-requires c κs = let a = c .before .before in
@@ -32,4 +32,4 @@ returns c = let a = c .before .before .before in
     (c .quotient .ensures ∙ ap (λ z. rounded z (c .before .count .result)) (toZ-pos w32 (length (now (a .args .list)) / 2) (omega (arith, points, a .pre .0 .few)) ∙ ap pos (sym points)))
 
 pub solidity-of-spec : {M : Type 1} → statement M
-solidity-of-spec = tie.close (tie.spec cast-quotient count-requires quotient-requires returns)
+solidity-of-spec = tie.close (tie.spec count-requires cast-quotient quotient-requires returns)

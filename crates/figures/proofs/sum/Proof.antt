@@ -1,7 +1,7 @@
 -- `figures::sum` meets its contract: a turn of the loop adds one coordinate more. Assumes nothing.
 use Rattle.figures.proofs.sum.Statement.{statement}
 use Rattle.figures.proofs.sum.Tie as tie
-use Prim.Native.Nat.{_-_, _+_, _*_, _<_}
+use Prim.Native.Nat.{_-_, _+_, _*_, _/_, _<_}
 use mathlib.Core.Path.{_≡_}
 use native.Mathlib.Omega.{arith}
 use denote.Ref.{now}
@@ -15,10 +15,10 @@ use Rattle.figures.specs.Figure.{coordinate}
 use Rattle.figures.proofs.Summing.{Summed, read-coordinate, summed-none, summed-fits, summed-more, summed-ends}
 
 abbrev Inv-loop : tie.InvT-loop
-Inv-loop list coordinate n total₀ i₀ total i = Summed coordinate (points list) i (toZ w32 total)
+Inv-loop list coordinate total₀ i₀ total i = Summed coordinate (points list) i (toZ w32 total)
 
 abbrev μ-loop : tie.MeasureT-loop
-μ-loop list coordinate n total₀ i₀ total i = n - i
+μ-loop list coordinate total₀ i₀ total i = length list / 2 - i
 
 loop-holds : tie.Need-loop-holds Inv-loop μ-loop
 loop-holds c = summed-none (c .args .coordinate) (now (c .args .list)) (c .pre .0)
