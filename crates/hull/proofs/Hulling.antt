@@ -16,7 +16,7 @@ use Rattle.lattice.proofs.Places.{lt-or-le, pairs-place}
 use Rattle.lattice.proofs.Refusals.{gives-unique}
 use Rattle.lattice.proofs.SameMembers.{lists-unique}
 use Rattle.lattice.proofs.CornerLists.{corner-list-unique, corner-list-same}
-use Rattle.lattice.proofs.Tables.{declined-before, passed-before, whole-first, whole-never}
+use Rattle.lattice.proofs.Tables.{declined-before, passed-before, whole-first, whole-never, Passes, list-passes}
 use Rattle.packed.specs.Packed.{unpacked}
 use Rattle.packed.proofs.RowOrder.{unpacked-before}
 use Rattle.order.specs.declared.Ordered.{Ordered}
@@ -51,22 +51,23 @@ ordered-answer number place count = record { number = number; place = place; poi
 abbrev hulled-answer : ℕ → ℕ → ℕ → ℕ → Hulled
 hulled-answer number place n count = record { number = number; place = place; points = n; corners = count }
 
-module _ (list ordered corners : List ℤ) (keys stack : List ℕ) where
-  -- the rows after those of the list
-  abbrev roomRows : Table
-  roomRows = 5 when Whole (TooSmall ordered (length (points list))) else 6 when Whole (FewerThanCorners (points list) corners) else accepted
+-- the rows after those of the list
+abbrev roomRows : List ℤ → List ℤ → List ℤ → Table
+roomRows list ordered corners =
+    5 when Whole (TooSmall ordered (length (points list))) else 6 when Whole (FewerThanCorners (points list) corners) else accepted
 
+module _ (list ordered corners : List ℤ) (keys stack : List ℕ) where
   pub find-declined : (number place count : ℕ) → (number ≡ 0 → ⊥) → Finds list (ordered-answer number place count) keys
       → FindsHull list ordered corners (hulled-answer number place 0 0) keys stack
   find-declined zero place count n f = absurd (n refl)
   find-declined (suc number) place count n f = record {
-    gives = declined-before (listRows list accepted) roomRows number place (f .gives);
+    gives = declined-before (listRows list accepted) (roomRows list ordered corners) number place (f .gives);
     result = (refl, refl);
   }
 
   module _ {answer : Ordered} (f : FoundKeys list answer keys) where
-    later : (n i : ℕ) → Gives roomRows n i → Gives (hullRows list ordered corners accepted) n i
-    later n i g = passed-before (listRows list accepted) roomRows (tt, (tt, (tt, (tt, tt)))) (answer .place) n i (f .passed) g
+    later : (n i : ℕ) → Gives (roomRows list ordered corners) n i → Gives (hullRows list ordered corners accepted) n i
+    later n i g = passed-before (listRows list accepted) (roomRows list ordered corners) (tt, (tt, (tt, (tt, tt)))) (answer .place) n i (f .passed) g
 
     pub find-ordered-small : TooSmall ordered (answer .points) → FindsHull list ordered corners (hulled-answer 5 0 0 0) keys stack
     find-ordered-small small = record {
@@ -160,6 +161,10 @@ module _ (list ordered corners : List ℤ) (keys stack : List ℕ) where
       corner-room = stand .1;
     };
   }
+
+-- ---- an accepted list passes rows 1 to 4
+pub hull-passes : (list ordered corners : List ℤ) (place : ℕ) → Gives (hullRows list ordered corners accepted) 0 place → Passes list
+hull-passes list ordered corners place g = list-passes list (roomRows list ordered corners) place g
 
 -- ---- any two outcomes coincide
 pub hulls-equal : (s : List Point) (ordered corners : List ℤ) (n m count total : ℕ) (ordered′ ordered″ corners′ corners″ : List ℤ)

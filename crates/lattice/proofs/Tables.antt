@@ -1,5 +1,6 @@
--- One table of refusals behind another: a call that looks at more rows after those of a call that it contains. Assumes nothing.
-use mathlib.Core.Path.{_≡_, refl}
+-- One table of refusals behind another: a call that looks at more rows after those of a call that it contains; and what a list is like
+-- that no row refuses. Assumes nothing.
+use mathlib.Core.Path.{_≡_, refl, sym}
 use mathlib.Core.Logic.{inl, inr}
 use mathlib.Core.List.{List}
 use Prim.Native.Nat.{ℕ, suc, _≤_}
@@ -8,9 +9,11 @@ use lib.Dec.{T, ltb, ltb→lt}
 use lib.ListN.{length}
 use lib.IntN.{ℤ}
 use Rattle.lattice.proofs.Lists.{either}
-use Rattle.lattice.proofs.Places.{lt-or-le, nowhere}
-use Rattle.lattice.specs.Point.{most, points}
-use Rattle.lattice.specs.Refusal.{First, Table, accepted, _when_else_, Gives, Whole, listRows}
+use Rattle.lattice.proofs.Places.{lt-or-le, nowhere, place-all, place-pairs}
+use Rattle.lattice.proofs.Decide.{yes-or-no}
+use Rattle.lattice.proofs.Refusals.{range?}
+use Rattle.lattice.specs.Point.{InRange, most, points, point, All, Pairs}
+use Rattle.lattice.specs.Refusal.{First, Table, accepted, _when_else_, Gives, Whole, Odd, listRows}
 
 -- the rows of t, then those of `later`
 infixr 6 _then_
@@ -22,6 +25,9 @@ accepted then later = later
 abbrev pub Numbered : Table → Type 0
 Numbered accepted = Unit {0}
 Numbered (k when P else t) = T (ltb 0 k) × Numbered t
+
+unnumbered : (k : ℕ) → 0 ≡ k → T (ltb 0 k) → ⊥
+unnumbered k e u = omega (arith, ltb→lt 0 k u)
 
 -- what the first rows give stands
 pub declined-before : (t later : Table) (n i : ℕ) → Gives t (suc n) i → Gives (t then later) (suc n) i
@@ -35,10 +41,7 @@ declined-before (k when P else t) later n i (inr h) = inr (h .0, declined-before
 -- where they give nothing, the later rows decide
 pub passed-before : (t later : Table) → Numbered t → (i n j : ℕ) → Gives t 0 i → Gives later n j → Gives (t then later) n j
 passed-before accepted later m i n j h g = g
-passed-before (k when P else t) later m i n j (inl h) g = absurd (never k (h .0) (m .0))
-  where
-    never : (k : ℕ) → 0 ≡ k → T (ltb 0 k) → ⊥
-    never k e u = omega (arith, ltb→lt 0 k u)
+passed-before (k when P else t) later m i n j (inl h) g = absurd (unnumbered k (h .0) (m .0))
 passed-before (k when P else t) later m i n j (inr h) g = inr (h .0, passed-before t later (m .1) i n j (h .1) g)
 
 -- ---- a row for the call as a whole
@@ -48,8 +51,32 @@ whole-first p = record { here = (refl, p); earlier = λ j h _. nowhere j h }
 pub whole-never : {P : Type 0} → (P → ⊥) → (j : ℕ) → Whole P j → ⊥
 whole-never no-fault j h = no-fault (h .1)
 
--- ---- a list that passes rows 1 to 4 has no more than 4,096 points
+-- ---- an accepted call: no row applies
+-- a table whose rows have numbers gives 0 with place 0 only
+pub accepted-place : (t : Table) → Numbered t → (i : ℕ) → Gives t 0 i → i ≡ 0
+accepted-place accepted m i h = h .1
+accepted-place (k when P else t) m i (inl h) = absurd (unnumbered k (h .0) (m .0))
+accepted-place (k when P else t) m i (inr h) = accepted-place t (m .1) i (h .1)
+
+-- rows 1 to 4 of a list: an even length, at most 4,096 points, each in range, each once
+pub record Passes (a : List ℤ) : Type 0 where
+  pub even : Odd a → ⊥
+  pub few : length (points a) ≤ most
+  pub range : All InRange (points a)
+  pub once : Pairs (λ p q. p ≡ q → ⊥) (points a)
+
+pub list-passes : (a : List ℤ) (later : Table) (i : ℕ) → Gives (listRows a later) 0 i → Passes a
+list-passes a later i (inl h) = absurd (omega (arith, h .0))
+list-passes a later i (inr (odd, inl h)) = absurd (omega (arith, h .0))
+list-passes a later i (inr (odd, inr (more, inl h))) = absurd (omega (arith, h .0))
+list-passes a later i (inr (odd, inr (more, inr (outside, inl h)))) = absurd (omega (arith, h .0))
+list-passes a later i (inr (odd, inr (more, inr (outside, inr (repeats, h))))) = record {
+  even = λ o. odd 0 (refl, o);
+  few = either (lt-or-le most (length (points a))) (λ l. absurd (more 0 (refl, l))) (λ l. l);
+  range = place-all InRange (points a) (λ j l. either (yes-or-no (range? (point (points a) j))) (λ r. r) (λ n. absurd (outside j (l, n))));
+  once = place-pairs (λ p q. p ≡ q → ⊥) (points a) (λ j k l m e. repeats k (m, (j, l, sym e)));
+}
+
+-- a list that passes has no more than 4,096 points
 pub list-few : (a : List ℤ) (i : ℕ) → Gives (listRows a accepted) 0 i → length (points a) ≤ most
-list-few a i (inl h) = absurd (omega (arith, h .0))
-list-few a i (inr (odd, inl h)) = absurd (omega (arith, h .0))
-list-few a i (inr (odd, inr (more, h))) = either (lt-or-le most (length (points a))) (λ l. absurd (more 0 (refl, l))) (λ l. l)
+list-few a i g = list-passes a accepted i g .few

@@ -1,13 +1,14 @@
--- Packed points by place, and what packed points that rise are a list of. Assumes nothing.
+-- Packed points by place, what packed points that rise are a list of, and how many points the range has. Assumes nothing.
 use mathlib.Core.Path.{_≡_, refl, sym, _∙_, subst}
 use mathlib.Core.List.{List, [], _∷_, map}
-use Prim.Native.Nat.{ℕ, zero, suc, _<_}
+use Prim.Native.Nat.{ℕ, zero, suc, _≤_, _<_}
 use native.Mathlib.Omega.{arith}
 use lib.ListN.{length, getD, length-map}
-use Rattle.lattice.specs.Point.{Point, point, In, Lists, Before}
-use Rattle.lattice.proofs.Places.{nowhere, place-in, in-place, place-pairs}
-use Rattle.packed.specs.Packed.{unpacked}
-use Rattle.packed.proofs.RowOrder.{before-unpacked}
+use Rattle.lattice.specs.Point.{Point, InRange, point, In, All, Pairs, Lists, Before}
+use Rattle.lattice.proofs.Lists.{in-all}
+use Rattle.lattice.proofs.Places.{nowhere, place-in, in-place, all-place, pairs-place, place-pairs}
+use Rattle.packed.specs.Packed.{cells, packed, unpacked}
+use Rattle.packed.proofs.RowOrder.{before-unpacked, packed-below, before-packed}
 
 pub unpacked-at : (keys : List ℕ) (i : ℕ) → i < length keys → point (map unpacked keys) i ≡ unpacked (getD keys i 0)
 unpacked-at [] i h = nowhere i h
@@ -41,3 +42,25 @@ rising-lists P keys rises only every = record {
       subst (λ p. Before p (point (map unpacked keys) j)) (sym e)
       (subst (λ q. Before (unpacked (getD keys i 0)) q) (sym f) (before-unpacked (getD keys i 0) (getD keys j 0) (rises i j h l))));
 }
+
+-- ---- how many
+-- points in range and in row order, by place: as many packed points are less
+rank : (l : List Point) → Pairs Before l → All InRange l → (i : ℕ) → i < length l → i ≤ packed (point l i)
+rank l h r zero k = omega arith
+rank l h r (suc i) k =
+    let b = before-packed (point l i) (point l (suc i)) (all-place InRange l r i (omega arith)) (all-place InRange l r (suc i) k)
+    (pairs-place Before l h i (suc i) (omega arith) k) in
+    omega (arith, b, rank l h r i (omega arith))
+
+-- a list of points in range, each once, has at most 2^28
+pub lists-small : (P : Point → Type 0) → ((p : Point) → P p → InRange p) → (l : List Point) → Lists P l → length l ≤ cells
+lists-small P f l h = by-length (length l) refl
+  where
+    range : All InRange l
+    range = in-all InRange l (λ p m. f p (h .only p m))
+
+    by-length : (n : ℕ) → length l ≡ n → n ≤ cells
+    by-length zero e = omega arith
+    by-length (suc n) e =
+        let k : n < length l = omega arith in
+        omega (arith, rank l (h .order) range n k, packed-below (point l n) (all-place InRange l range n k))

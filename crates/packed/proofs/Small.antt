@@ -3,12 +3,18 @@ use mathlib.Core.List.{[], _∷_}
 use Prim.Native.Nat.{ℕ, zero, suc, _+_, _*_, _^_, _≤_, _<_}
 use native.Mathlib.Omega.{arith}
 use lib.Dec.{leb→le}
-use lib.IntN.{ℤ, pos, negsuc, _*ℤ_, _-ℤ_}
+use lib.IntN.{ℤ, pos, negsuc, _+ℤ_, _*ℤ_, _-ℤ_}
 use lib.Signed.{mag}
 use mir.Syntax.{Width, w64}
 use mir.Val.{SFits, hbits}
 use Rattle.whole.proofs.Whole.{quote, natural, gap≤, _⊞_, _⊠_, linear≤, le-of-doubles}
 use Rattle.packed.specs.Packed.{Within}
+
+pub within-sum : (j k : ℕ) {a b : ℤ} → Within j a → Within k b → Within (j + k) (a +ℤ b)
+within-sum j k {a} {b} h g = record {
+  low = linear≤ (a ∷ b ∷ pos j ∷ pos k ∷ []) (gap≤ (h .low) ⊞ gap≤ (g .low)) (search quote depth 20) tt;
+  high = linear≤ (a ∷ b ∷ pos j ∷ pos k ∷ []) (gap≤ (h .high) ⊞ gap≤ (g .high)) (search quote depth 20) tt;
+}
 
 pub within-difference : (j k : ℕ) {a b : ℤ} → Within j a → Within k b → Within (j + k) (a -ℤ b)
 within-difference j k {a} {b} h g = record {

@@ -1,3 +1,4 @@
--- Laws of counts and of signed numbers that several functions here cite.
+-- Laws of counts, of signed numbers and of doubles that the functions here cite.
 pub mod Counting
 pub mod Signs
+pub mod Bits

@@ -2,6 +2,7 @@
 // program is compared over: one request a line, one answer a line. What is no request ends the run with a line of its
 // own, so that a comparison stops there.
 mod asked;
+mod figuring;
 mod hulling;
 mod ordering;
 mod parts;
@@ -41,6 +42,7 @@ fn answered(
         5 => rows::row_ends(input, output, list, source, sink),
         6 => rows::row(input, output, list, source, sink),
         7 => rebuilding::rebuild(input, output, ordered, corners, missing, source, sink),
+        8 => figuring::figures(input, output, list, ordered, corners, source, sink),
         _ => state::bad(source, sink),
     }
 }
