@@ -1,0 +1,115 @@
+-- Demand 1: "Every call takes every list and every room and ends, with an answer or a numbered refusal. A refusal carries the number and place
+-- fixed in the rules, and every list lent to the call then reads exactly as before."
+-- That a call takes everything is that its contract has no `requires`, and that it ends is proved with every Rattle function. A list that
+-- is lent to be read (`&[i32]`) can't change. The rest is said here of each promise. Row and Row ends have no refusal. Assumes nothing.
+use mathlib.Core.Path.{_≡_, refl, subst}
+use mathlib.Core.Logic.{inl, inr}
+use mathlib.Core.List.{List}
+use Prim.Native.Nat.{ℕ, zero, suc}
+use native.Mathlib.Omega.{arith}
+use lib.Dec.{T, ltb, ltb→lt}
+use lib.IntN.{ℤ}
+use Rattle.lattice.specs.Point.{Point, origin, points}
+use Rattle.lattice.specs.Refusal.{Table, accepted, _when_else_, Gives}
+use Rattle.lattice.proofs.Refusals.{gives-unique}
+use Rattle.lattice.proofs.Tables.{Numbered}
+use Rattle.order.specs.declared.Ordered.{Ordered}
+use Rattle.order.specs.Order.{orderRows, OrderResult, OrderPromise}
+use Rattle.hull.specs.declared.Hulled.{Hulled}
+use Rattle.hull.specs.Hull.{hullRows, HullResult, HullPromise}
+use Rattle.report.specs.declared.Judged.{Judged}
+use Rattle.report.specs.declared.Reported.{Reported}
+use Rattle.report.specs.Report.{neither, VerdictResult, VerdictPromise, reportRows, MissingResult, ReportPromise}
+use Rattle.rebuild.specs.declared.Rebuilt.{Rebuilt}
+use Rattle.rebuild.specs.Rebuild.{RebuildResult, rebuildTable, RebuildPromise}
+use Rattle.demands.specs.Demands.{Ruled}
+
+-- ---- a table whose rows all have a number
+accepted-place : (t : Table) → Numbered t → (i : ℕ) → Gives t 0 i → i ≡ 0
+accepted-place accepted n i h = h .1
+accepted-place (k when P else t) n i (inl h) = absurd (never k (h .0) (n .0))
+  where
+    never : (k : ℕ) → 0 ≡ k → T (ltb 0 k) → ⊥
+    never k e u = omega (arith, ltb→lt 0 k u)
+accepted-place (k when P else t) n i (inr h) = accepted-place t (n .1) i (h .1)
+
+ruled : {t : Table} {number place : ℕ} {AsBefore : Type 0} → Numbered t → Gives t number place → ((number ≡ 0 → ⊥) → AsBefore)
+    → Ruled t number place AsBefore
+ruled {t} {number} {place} numbered g before = record {
+  given = g;
+  only = λ n i h. gives-unique t n number i place h g;
+  accepted = λ e. accepted-place t numbered place (subst (λ n. Gives t n place) e g);
+  declined = before;
+}
+
+-- ---- what is left by a number that is not 0
+module _ (list : List ℤ) where
+  order-unchanged : (room : List ℤ) (number count : ℕ) (after : List ℤ) → OrderResult list room number count after → (number ≡ 0 → ⊥)
+      → (count ≡ 0) × (after ≡ room)
+  order-unchanged room zero count after h n = absurd (n refl)
+  order-unchanged room (suc number) count after h n = h
+
+  hull-unchanged : (ordered corners : List ℤ) (number n count : ℕ) (ordered′ corners′ : List ℤ)
+      → HullResult list ordered corners number n count ordered′ corners′ → (number ≡ 0 → ⊥)
+      → (n ≡ 0) × (count ≡ 0) × (ordered′ ≡ ordered) × (corners′ ≡ corners)
+  hull-unchanged ordered corners zero n count ordered′ corners′ h e = absurd (e refl)
+  hull-unchanged ordered corners (suc number) n count ordered′ corners′ h e = h
+
+module _ (s : List Point) where
+  no-verdict : (number verdict : ℕ) (first : Point) → VerdictResult s number verdict first → (number ≡ 0 → ⊥)
+      → (verdict ≡ neither) × (first ≡ origin)
+  no-verdict zero verdict first h n = absurd (n refl)
+  no-verdict (suc number) verdict first h n = h
+
+  missing-unchanged : (room : List ℤ) (number count : ℕ) (room′ : List ℤ) → MissingResult s room number count room′ → (number ≡ 0 → ⊥)
+      → (count ≡ 0) × (room′ ≡ room)
+  missing-unchanged room zero count room′ h n = absurd (n refl)
+  missing-unchanged room (suc number) count room′ h n = h
+
+rebuild-unchanged : (c m : List Point) (room : List ℤ) (number count : ℕ) (after : List ℤ) → RebuildResult c m room number count after
+    → (number ≡ 0 → ⊥) → (count ≡ 0) × (after ≡ room)
+rebuild-unchanged c m room zero count after h n = absurd (n refl)
+rebuild-unchanged c m room (suc number) count after h n = h
+
+-- ---- the calls
+pub order-ruled : (list room : List ℤ) (a : Ordered) (after : List ℤ) → OrderPromise list room a after
+    → Ruled (orderRows list room accepted) (a .number) (a .place) ((a .points ≡ 0) × (after ≡ room))
+order-ruled list room a after h =
+    ruled (tt, (tt, (tt, (tt, (tt, tt))))) (h .gives) (order-unchanged list room (a .number) (a .points) after (h .result))
+
+pub hull-ruled : (list ordered corners : List ℤ) (a : Hulled) (ordered′ corners′ : List ℤ) → HullPromise list ordered corners a ordered′ corners′
+    → Ruled (hullRows list ordered corners accepted) (a .number) (a .place)
+    ((a .points ≡ 0) × (a .corners ≡ 0) × (ordered′ ≡ ordered) × (corners′ ≡ corners))
+hull-ruled list ordered corners a ordered′ corners′ h =
+    ruled (tt, (tt, (tt, (tt, (tt, (tt, tt)))))) (h .gives)
+    (hull-unchanged list ordered corners (a .number) (a .points) (a .corners) ordered′ corners′ (h .result))
+
+pub verdict-ruled : (list ordered corners : List ℤ) (a : Judged) (ordered′ corners′ : List ℤ) → VerdictPromise list ordered corners a ordered′ corners′
+    → Ruled (hullRows list ordered corners accepted) (a .number) (a .place)
+    ((a .points ≡ 0) × (a .corners ≡ 0) × (a .verdict ≡ neither) × (record { x = a .x; y = a .y } ≡ origin)
+    × (ordered′ ≡ ordered) × (corners′ ≡ corners))
+verdict-ruled list ordered corners a ordered′ corners′ h =
+    ruled (tt, (tt, (tt, (tt, (tt, (tt, tt)))))) (h .gives)
+    (λ n.
+    let u = hull-unchanged list ordered corners (a .number) (a .points) (a .corners) ordered′ corners′ (h .hull) n in
+    let v = no-verdict (points list) (a .number) (a .verdict) (record { x = a .x; y = a .y }) (h .verdict) n in
+    (u .0, u .1, v .0, v .1, u .2, u .3))
+
+pub report-ruled : (list ordered corners missing : List ℤ) (a : Reported) (ordered′ corners′ missing′ : List ℤ)
+    → ReportPromise list ordered corners missing a ordered′ corners′ missing′
+    → Ruled (reportRows list ordered corners missing accepted) (a .number) (a .place)
+    ((a .points ≡ 0) × (a .corners ≡ 0) × (a .missing ≡ 0) × (a .verdict ≡ neither) × (record { x = a .x; y = a .y } ≡ origin)
+    × (ordered′ ≡ ordered) × (corners′ ≡ corners) × (missing′ ≡ missing))
+report-ruled list ordered corners missing a ordered′ corners′ missing′ h =
+    ruled (tt, (tt, (tt, (tt, (tt, (tt, (tt, tt))))))) (h .gives)
+    (λ n.
+    let u = hull-unchanged list ordered corners (a .number) (a .points) (a .corners) ordered′ corners′ (h .hull) n in
+    let v = no-verdict (points list) (a .number) (a .verdict) (record { x = a .x; y = a .y }) (h .verdict) n in
+    let m = missing-unchanged (points list) missing (a .number) (a .missing) missing′ (h .listed) n in
+    (u .0, u .1, m .0, v .0, v .1, u .2, u .3, m .1))
+
+pub rebuild-ruled : (corners missing room : List ℤ) (a : Rebuilt) (after : List ℤ) → RebuildPromise corners missing room a after
+    → Ruled (rebuildTable corners missing room) (a .number) (a .place) ((a .points ≡ 0) × (after ≡ room))
+rebuild-ruled corners missing room a after h =
+    ruled (tt, (tt, (tt, (tt, (tt, (tt, (tt, (tt, (tt, tt))))))))) (h .gives)
+    (rebuild-unchanged (points corners) (points missing) room (a .number) (a .points) after (h .result))
