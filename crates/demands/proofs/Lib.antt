@@ -1,2 +1,4 @@
 -- The three demands over the promises of the calls, one file each; that every promise pins its outcome; the five impostors.
 pub mod Refused
+pub mod Rooms
+pub mod Published

@@ -28,7 +28,7 @@ pub record Begins (l : List Point) (count : ℕ) (room after : List ℤ) : Type 
   pub rest : drop (2 * count) after ≡ drop (2 * count) room
 
 -- yes or no, and the first missing point, of a grain with points s and missing list m
-pub record Judges (s m : List Point) (verdict : ℕ) (first : Point) : Type 0 where
+pub record Says (s m : List Point) (verdict : ℕ) (first : Point) : Type 0 where
   pub yes-exactly : (verdict ≡ yes) ↔ Convex s
   pub no-exactly : (verdict ≡ no) ↔ (Convex s → ⊥)
   pub first-is : first ≡ firstOf m
