@@ -3,7 +3,7 @@
 -- Said of every accepted call (number 0) and of every list that the definition allows: the points in row order, the corner list, the missing
 -- list, the points that are kept. There is one of each, and only one (`row-order-exists`, `corner-list-exists`, `missing-list-exists`,
 -- `kept-list-exists`; `lists-unique`, `corner-list-unique`, `missing-list-unique` in crates/lattice/proofs). Assumes nothing.
-use mathlib.Core.Path.{_≡_, refl, sym, _∙_, ap}
+use mathlib.Core.Path.{_≡_, refl, _∙_, ap}
 use mathlib.Core.Logic.{inl, _↔_}
 use mathlib.Core.List.{List, [], _∷_}
 use Prim.Native.Nat.{ℕ, zero, suc}

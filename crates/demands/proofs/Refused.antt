@@ -3,14 +3,11 @@
 -- That a call takes everything is that its contract has no `requires`, and that it ends is proved with every Rattle function. A list that
 -- is lent to be read (`&[i32]`) can't change. The rest is said here of each promise. Row and Row ends have no refusal. Assumes nothing.
 use mathlib.Core.Path.{_≡_, refl, subst}
-use mathlib.Core.Logic.{inl, inr}
 use mathlib.Core.List.{List}
 use Prim.Native.Nat.{ℕ, zero, suc}
-use native.Mathlib.Omega.{arith}
-use lib.Dec.{T, ltb, ltb→lt}
 use lib.IntN.{ℤ}
 use Rattle.lattice.specs.Point.{Point, origin, points}
-use Rattle.lattice.specs.Refusal.{Table, accepted, _when_else_, Gives}
+use Rattle.lattice.specs.Refusal.{Table, accepted, Gives}
 use Rattle.lattice.proofs.Refusals.{gives-unique}
 use Rattle.lattice.proofs.Tables.{Numbered}
 use Rattle.order.specs.declared.Ordered.{Ordered}
@@ -23,24 +20,20 @@ use Rattle.report.specs.Report.{neither, VerdictResult, VerdictPromise, reportR
 use Rattle.rebuild.specs.declared.Rebuilt.{Rebuilt}
 use Rattle.rebuild.specs.Rebuild.{RebuildResult, rebuildTable, RebuildPromise}
 use Rattle.demands.specs.Demands.{Ruled}
-
--- ---- a table whose rows all have a number
-accepted-place : (t : Table) → Numbered t → (i : ℕ) → Gives t 0 i → i ≡ 0
-accepted-place accepted n i h = h .1
-accepted-place (k when P else t) n i (inl h) = absurd (never k (h .0) (n .0))
-  where
-    never : (k : ℕ) → 0 ≡ k → T (ltb 0 k) → ⊥
-    never k e u = omega (arith, ltb→lt 0 k u)
-accepted-place (k when P else t) n i (inr h) = accepted-place t (n .1) i (h .1)
+use Rattle.demands.proofs.Passing.{accepted-place, none-applies, all-pass}
 
 ruled : {t : Table} {number place : ℕ} {AsBefore : Type 0} → Numbered t → Gives t number place → ((number ≡ 0 → ⊥) → AsBefore)
     → Ruled t number place AsBefore
 ruled {t} {number} {place} numbered g before = record {
   given = g;
   only = λ n i h. gives-unique t n number i place h g;
-  accepted = λ e. accepted-place t numbered place (subst (λ n. Gives t n place) e g);
+  exactly = ((λ e. none-applies t numbered place (zeroed e)), (λ h. gives-unique t number 0 place 0 g (all-pass t h) .0));
+  accepted-place = λ e. accepted-place t numbered place (zeroed e);
   declined = before;
 }
+  where
+    zeroed : number ≡ 0 → Gives t 0 place
+    zeroed e = subst (λ n. Gives t n place) e g
 
 -- ---- what is left by a number that is not 0
 module _ (list : List ℤ) where

@@ -8,17 +8,23 @@ use lib.IntN.{ℤ}
 use Rattle.lattice.specs.Point.{Point}
 use Rattle.lattice.specs.Hull.{Convex}
 use Rattle.lattice.specs.Grains.{firstOf}
-use Rattle.lattice.specs.Refusal.{Table, Gives}
+use Rattle.lattice.specs.Refusal.{Table, accepted, _when_else_, Gives}
 use Rattle.lattice.specs.Room.{numbers}
 use Rattle.report.specs.declared.Reported.{Reported}
 use Rattle.report.specs.Report.{no, yes, ReportPromise}
 
--- demand 1: number and place are those that the table gives, and it gives no others; place 0 goes with number 0; where the call is declined,
--- all is as before
+-- no row of the table applies anywhere
+abbrev pub NoneApplies : Table → Type 0
+NoneApplies accepted = Unit {0}
+NoneApplies (k when P else later) = ((j : ℕ) → P j → ⊥) × NoneApplies later
+
+-- demand 1: number and place are those that the table gives, and it gives no others; the call is accepted exactly if no row applies, and then
+-- with place 0; where it is declined, all is as before
 pub record Ruled (t : Table) (number place : ℕ) (AsBefore : Type 0) : Type 0 where
   pub given : Gives t number place
   pub only : (n i : ℕ) → Gives t n i → (n ≡ number) × (i ≡ place)
-  pub accepted : number ≡ 0 → place ≡ 0
+  pub exactly : (number ≡ 0) ↔ NoneApplies t
+  pub accepted-place : number ≡ 0 → place ≡ 0
   pub declined : (number ≡ 0 → ⊥) → AsBefore
 
 -- demand 2: the room begins with the numbers of these points and nothing else is changed, and the count is theirs

@@ -1,0 +1,94 @@
+-- A table gives number 0 exactly if none of its rows applies, and then place 0; so with lists that rows 1 to 4 let pass. Assumes nothing.
+use mathlib.Core.Path.{_≡_, refl, sym, ap, subst}
+use mathlib.Core.Logic.{inl, inr}
+use mathlib.Core.List.{List}
+use Prim.Native.Nat.{ℕ}
+use native.Mathlib.Omega.{arith}
+use lib.Dec.{T, ltb, ltb→lt}
+use lib.ListN.{length}
+use lib.IntN.{ℤ}
+use Rattle.lattice.specs.Point.{Point, InRange, points, point, All, Pairs, Before, Lists}
+use Rattle.lattice.specs.Hull.{Of, CornerList, MissingList}
+use Rattle.lattice.specs.Refusal.{Table, accepted, _when_else_, Gives, AtPoint, OutOfRange, Repeats, listRows}
+use Rattle.lattice.proofs.Lists.{either}
+use Rattle.lattice.proofs.Places.{place-all, all-place, pairs-place, place-pairs}
+use Rattle.lattice.proofs.RowOrder.{before-asymmetric}
+use Rattle.lattice.proofs.Decide.{yes-or-no}
+use Rattle.lattice.proofs.RowLists.{row-order-length}
+use Rattle.lattice.proofs.CornerLists.{corner-list-unique}
+use Rattle.lattice.proofs.MissingLists.{missing-list-unique}
+use Rattle.lattice.proofs.Refusals.{range?}
+use Rattle.lattice.proofs.Tables.{Numbered, whole-never}
+use Rattle.order.specs.Row.{Sound}
+use Rattle.report.specs.Report.{reportRows}
+use Rattle.demands.specs.Demands.{NoneApplies, RoomFor}
+
+-- ---- tables
+none-is-numbered : (k : ℕ) → T (ltb 0 k) → 0 ≡ k → ⊥
+none-is-numbered k u e = omega (arith, ltb→lt 0 k u)
+
+pub accepted-place : (t : Table) → Numbered t → (i : ℕ) → Gives t 0 i → i ≡ 0
+accepted-place accepted n i h = h .1
+accepted-place (k when P else t) n i (inl h) = absurd (none-is-numbered k (n .0) (h .0))
+accepted-place (k when P else t) n i (inr h) = accepted-place t (n .1) i (h .1)
+
+pub none-applies : (t : Table) → Numbered t → (i : ℕ) → Gives t 0 i → NoneApplies t
+none-applies accepted n i h = tt
+none-applies (k when P else t) n i (inl h) = absurd (none-is-numbered k (n .0) (h .0))
+none-applies (k when P else t) n i (inr h) = (h .0, none-applies t (n .1) i (h .1))
+
+pub all-pass : (t : Table) → NoneApplies t → Gives t 0 0
+all-pass accepted h = (refl, refl)
+all-pass (k when P else t) h = inr (h .0, all-pass t (h .1))
+
+-- ---- rows
+pub within-range : (l : List Point) → ((j : ℕ) → AtPoint OutOfRange l j → ⊥) → All InRange l
+within-range l f = place-all InRange l (λ j k. either (yes-or-no (range? (point l j))) (λ h. h) (λ n. absurd (f j (k, n))))
+
+pub none-out-of-range : (l : List Point) → All InRange l → (j : ℕ) → AtPoint OutOfRange l j → ⊥
+none-out-of-range l h j (k, n) = n (all-place InRange l h j k)
+
+pub none-repeats : (l : List Point) → Pairs Before l → (i : ℕ) → Repeats l i → ⊥
+none-repeats l h i (k, (j, g, e)) =
+    let b = pairs-place Before l h j i g k in
+    let c = subst (λ p. Before (point l j) p) e b in
+    before-asymmetric (point l j) (point l j) c c
+
+-- points without a repeat are as many as they are in row order
+pub counted-once : (l o : List Point) → ((i : ℕ) → Repeats l i → ⊥) → Lists (Of l) o → length o ≡ length l
+counted-once l o f h = row-order-length l o (place-pairs (λ a b. a ≡ b → ⊥) l (λ i j g k e. f j (k, (i, g, sym e)))) h
+
+-- ---- lists
+pub sound-passes : (list : List ℤ) → Sound list → NoneApplies (listRows list accepted)
+sound-passes list h = (
+  whole-never (h .even),
+  (
+    whole-never (λ more. omega (arith, more, h .few)),
+    (none-out-of-range (points list) (h .range), (none-repeats (points list) (h .order), tt)),
+  ),
+)
+
+-- given room, Report declines no list that rows 1 to 4 let pass
+pub report-accepts : (list ordered corners missing : List ℤ) (c m : List Point) → NoneApplies (listRows list accepted)
+    → CornerList (points list) c → MissingList (points list) m
+    → RoomFor (length (points list)) ordered → RoomFor (length c) corners → RoomFor (length m) missing
+    → NoneApplies (reportRows list ordered corners missing accepted)
+report-accepts list ordered corners missing c m (odd, (more, (outside, (repeats, t)))) h g wide corner-wide missing-wide = (
+  odd,
+  (
+    more,
+    (
+      outside,
+      (
+        repeats,
+        (
+          whole-never (λ small. omega (arith, small, wide)),
+          (
+            whole-never (λ w. omega (arith, w .small, corner-wide, ap length (corner-list-unique (points list) (w .corners) c (w .listed) h))),
+            (whole-never (λ w. omega (arith, w .small, missing-wide, ap length (missing-list-unique (points list) (w .missing) m (w .listed) g))), tt),
+          ),
+        ),
+      ),
+    ),
+  ),
+)
