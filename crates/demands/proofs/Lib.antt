@@ -4,3 +4,5 @@ pub mod Refused
 pub mod Rooms
 pub mod Published
 pub mod NoTwoGrains
+pub mod EveryCall
+pub mod Impostors

@@ -6,11 +6,11 @@
 use mathlib.Core.Path.{_≡_, refl, sym, _∙_, ap, subst}
 use mathlib.Core.Logic.{inl, inr, _↔_}
 use mathlib.Core.List.{List}
-use Prim.Native.Nat.{ℕ, zero, _*_, _≤_, _<_}
+use Prim.Native.Nat.{ℕ, _*_, _≤_, _<_}
 use native.Mathlib.Omega.{arith}
 use lib.ListN.{length, take}
 use lib.IntN.{ℤ}
-use Rattle.lattice.specs.Point.{Point, InRange, most, points, All, Pairs, Before, Lists}
+use Rattle.lattice.specs.Point.{Point, InRange, most, points, In, All, Pairs, Before, Lists}
 use Rattle.lattice.specs.Hull.{Of, CornerList, MissingList, Kept}
 use Rattle.lattice.specs.Refusal.{accepted, Whole, Odd}
 use Rattle.lattice.specs.Room.{numbers}
@@ -30,9 +30,9 @@ use Rattle.rebuild.specs.declared.Rebuilt.{Rebuilt}
 use Rattle.rebuild.specs.Rebuild.{rebuildTable, RebuildPromise}
 use Rattle.rebuild.proofs.WayBack as WayBack
 use Rattle.demands.specs.Demands.{NoneApplies, Begins, FullReport, pointsIn, cornersIn, missingIn, RoomFor}
-use Rattle.demands.proofs.Passing.{within-range, counted-once, sound-passes, report-accepts}
+use Rattle.demands.proofs.Passing.{within-range, counted-once}
 use Rattle.demands.proofs.Rooms.{begins, numbers-tell, numbers-even, even-numbers}
-use Rattle.demands.proofs.Published.{report-published, rebuild-published}
+use Rattle.demands.proofs.Published.{report-published, rebuild-published, report-of-sound}
 use Rattle.demands.proofs.Refused.{report-ruled, rebuild-ruled}
 
 -- ---- what stands in the rooms of a full report
@@ -109,13 +109,19 @@ module _ {list : List ℤ} (a : FullReport list) where
 pub report-comes-back : (list : List ℤ) (a : FullReport list) (room : List ℤ) → RoomFor (a .answer .points) room
     → (b : Rebuilt) (after : List ℤ) → RebuildPromise (cornersIn a) (missingIn a) room b after
     → (b .number ≡ 0) × (b .points ≡ a .answer .points) × (take (2 * b .points) after ≡ pointsIn a)
+    × Same (points (take (2 * b .points) after)) (points list)
 report-comes-back list a room wide b after h =
     let u = read a in
     let w = WayBack.way-back (points list) (u .o) (cornersIn a) (missingIn a) room (reported a u)
     (λ small. omega (arith, small, wide, u .points-count)) b after h in
     let n = ap (λ z. z .points) (w .0) in
     let s : Begins (u .o) (b .points) room after = begins refl n (w .1) in
-    (ap (λ z. z .number) (w .0), n ∙ sym (u .points-count), s .front ∙ sym (u .points-front))
+    let p : points (take (2 * b .points) after) ≡ u .o = ap points (s .front) ∙ points-numbers (u .o) in (
+      ap (λ z. z .number) (w .0),
+      n ∙ sym (u .points-count),
+      s .front ∙ sym (u .points-front),
+      ((λ q i. u .order .only q (subst (In q) p i)), (λ q i. subst (In q) (sym p) (u .order .every q i))),
+    )
 
 -- ---- "every accepted pair is the full report of the grain it yields, given room"
 -- what an accepted pair yields: a list in row order, in range, with few enough points, whose corners and missing points are those two lists
@@ -180,14 +186,11 @@ pub rebuilt-reports-back : (corners missing room : List ℤ) (b : Rebuilt) (afte
 rebuilt-reports-back corners missing room b after h e ordered cornerRoom missingRoom wide corner-wide missing-wide a ordered′ corners′ missing′ g =
     let list = take (2 * b .points) after in
     let y = yields corners missing room b after h e in
-    let zero = report-ruled list ordered cornerRoom missingRoom a ordered′ corners′ missing′ g .exactly .1
-    (report-accepts list ordered cornerRoom missingRoom (points corners) (points missing) (sound-passes list (y .sound)) (y .corner) (y .missed)
-    (omega (arith, wide, y .counted)) corner-wide missing-wide) in
-    let r = report-published list ordered cornerRoom missingRoom a ordered′ corners′ missing′ g zero (points list) (points corners) (points missing)
-    (record { every = λ p i. i; only = λ p i. i; order = y .sound .order }) (y .corner) (y .missed) in (
-      zero,
-      r .0 .counted ∙ sym (y .counted),
-      r .0 .front ∙ even-numbers list (y .sound .even),
-      r .1 .front ∙ even-numbers corners (y .corners-even),
-      r .2 .front ∙ even-numbers missing (y .missing-even),
+    let r = report-of-sound list ordered cornerRoom missingRoom (points corners) (points missing) (y .sound) (y .corner) (y .missed)
+    (omega (arith, wide, y .counted)) corner-wide missing-wide a ordered′ corners′ missing′ g in (
+      r .0,
+      r .1 .counted ∙ sym (y .counted),
+      r .1 .front ∙ even-numbers list (y .sound .even),
+      r .2 .front ∙ even-numbers corners (y .corners-even),
+      r .3 .front ∙ even-numbers missing (y .missing-even),
     )

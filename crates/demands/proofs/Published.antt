@@ -8,6 +8,7 @@ use mathlib.Core.Logic.{inl, _↔_}
 use mathlib.Core.List.{List, [], _∷_}
 use Prim.Native.Nat.{ℕ, zero, suc}
 use native.Mathlib.Omega.{arith}
+use lib.ListN.{length}
 use lib.IntN.{ℤ}
 use Rattle.lattice.specs.Point.{Point, points, Lists}
 use Rattle.lattice.specs.Hull.{Of, CornerList, MissingList, Convex, Kept}
@@ -16,6 +17,7 @@ use Rattle.lattice.proofs.SameMembers.{lists-unique}
 use Rattle.lattice.proofs.CornerLists.{corner-list-unique}
 use Rattle.lattice.proofs.MissingLists.{missing-list-unique, convex-exactly}
 use Rattle.order.specs.declared.Ordered.{Ordered}
+use Rattle.order.specs.Row.{Sound}
 use Rattle.order.specs.Order.{OrderResult, OrderPromise}
 use Rattle.hull.specs.declared.Hulled.{Hulled}
 use Rattle.hull.specs.Hull.{HullResult, HullPromise}
@@ -25,7 +27,9 @@ use Rattle.report.specs.Report.{no, yes, verdictOf, VerdictResult, VerdictPromi
 use Rattle.report.proofs.Pinned.{verdict-yes, report-yes}
 use Rattle.rebuild.specs.declared.Rebuilt.{Rebuilt}
 use Rattle.rebuild.specs.Rebuild.{RebuildResult, RebuildPromise}
-use Rattle.demands.specs.Demands.{Begins, Says}
+use Rattle.demands.specs.Demands.{Begins, Says, RoomFor}
+use Rattle.demands.proofs.Passing.{sound-passes, report-accepts}
+use Rattle.demands.proofs.Refused.{report-ruled}
 use Rattle.demands.proofs.Rooms.{begins}
 
 -- ---- what stands behind number 0
@@ -110,3 +114,17 @@ pub rebuild-published : (corners missing room : List ℤ) (a : Rebuilt) (after :
     → (s : List Point) → Lists (Kept (points corners) (points missing)) s → Begins s (a .points) room after
 rebuild-published corners missing room a after h e =
     rebuild-begins (points corners) (points missing) room (a .number) (a .points) after e (h .result)
+
+-- ---- given room, Report takes every list that is sound, and answers as the definition says
+pub report-of-sound : (list ordered corners missing : List ℤ) (c m : List Point)
+    → Sound list → CornerList (points list) c → MissingList (points list) m
+    → RoomFor (length (points list)) ordered → RoomFor (length c) corners → RoomFor (length m) missing
+    → (a : Reported) (ordered′ corners′ missing′ : List ℤ) → ReportPromise list ordered corners missing a ordered′ corners′ missing′
+    → (a .number ≡ 0) × Begins (points list) (a .points) ordered ordered′ × Begins c (a .corners) corners corners′
+    × Begins m (a .missing) missing missing′ × Says (points list) m (a .verdict) (record { x = a .x; y = a .y })
+report-of-sound list ordered corners missing c m sound g k wide corner-wide missing-wide a ordered′ corners′ missing′ h =
+    let e = report-ruled list ordered corners missing a ordered′ corners′ missing′ h .exactly .1
+    (report-accepts list ordered corners missing c m (sound-passes list sound) g k wide corner-wide missing-wide) in
+    let r = report-published list ordered corners missing a ordered′ corners′ missing′ h e (points list) c m
+    (record { every = λ p i. i; only = λ p i. i; order = sound .order }) g k in
+    (e, r .0, r .1, r .2, r .3)

@@ -61,6 +61,10 @@ cornersIn r = take (2 * r .answer .corners) (r .corners′)
 abbrev pub missingIn : {list : List ℤ} → FullReport list → List ℤ
 missingIn r = take (2 * r .answer .missing) (r .missing′)
 
+-- "any two outcomes allowed by it coincide"
+abbrev pub Pinned : (Outcome : Type 0) → (Outcome → Type 0) → Type 0
+Pinned Outcome Promise = (a b : Outcome) → Promise a → Promise b → a ≡ b
+
 -- "given room": whole pairs for so many points
 abbrev pub RoomFor : ℕ → List ℤ → Type 0
 RoomFor n room = n ≤ length room / 2
