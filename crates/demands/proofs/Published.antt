@@ -3,7 +3,7 @@
 -- Said of every accepted call (number 0) and of every list that the definition allows: the points in row order, the corner list, the missing
 -- list, the points that are kept. There is one of each, and only one (`row-order-exists`, `corner-list-exists`, `missing-list-exists`,
 -- `kept-list-exists`; `lists-unique`, `corner-list-unique`, `missing-list-unique` in crates/lattice/proofs). Assumes nothing.
-use mathlib.Core.Path.{_≡_, refl, _∙_, ap}
+use mathlib.Core.Path.{_≡_, refl, _∙_, ap, subst}
 use mathlib.Core.Logic.{inl, _↔_}
 use mathlib.Core.List.{List, [], _∷_}
 use Prim.Native.Nat.{ℕ, zero, suc}
@@ -33,29 +33,14 @@ use Rattle.demands.proofs.Refused.{report-ruled}
 use Rattle.demands.proofs.Rooms.{begins}
 
 -- ---- what stands behind number 0
-order-begins : (list room : List ℤ) (number count : ℕ) (after : List ℤ) → number ≡ 0 → OrderResult list room number count after
-    → (o : List Point) → Lists (Of (points list)) o → Begins o count room after
-order-begins list room zero count after e (l, h, n, w) o g = begins (lists-unique (Of (points list)) l o h g) n w
-order-begins list room (suc number) count after e h o g = absurd (omega (arith, e))
-
 hull-begins : (list ordered corners : List ℤ) (number n count : ℕ) (ordered′ corners′ : List ℤ) → number ≡ 0
     → HullResult list ordered corners number n count ordered′ corners′
     → (o c : List Point) → Lists (Of (points list)) o → CornerList (points list) c → Begins o n ordered ordered′ × Begins c count corners corners′
-hull-begins list ordered corners zero n count ordered′ corners′ e h o c g k = (
-  begins (lists-unique (Of (points list)) (h .in-order) o (h .order) g) (h .points) (h .ordered-room),
-  begins (corner-list-unique (points list) (h .corner-list) c (h .corner) k) (h .corners-count) (h .corner-room),
-)
-hull-begins list ordered corners (suc number) n count ordered′ corners′ e h o c g k = absurd (omega (arith, e))
-
-missing-begins : (s : List Point) (room : List ℤ) (number count : ℕ) (room′ : List ℤ) → number ≡ 0 → MissingResult s room number count room′
-    → (m : List Point) → MissingList s m → Begins m count room room′
-missing-begins s room zero count room′ e (l, h, n, w) m g = begins (missing-list-unique s l m h g) n w
-missing-begins s room (suc number) count room′ e h m g = absurd (omega (arith, e))
-
-rebuild-begins : (c m : List Point) (room : List ℤ) (number count : ℕ) (after : List ℤ) → number ≡ 0 → RebuildResult c m room number count after
-    → (s : List Point) → Lists (Kept c m) s → Begins s count room after
-rebuild-begins c m room zero count after e (l, h, n, w) s g = begins (lists-unique (Kept c m) l s h g) n w
-rebuild-begins c m room (suc number) count after e h s g = absurd (omega (arith, e))
+hull-begins list ordered corners number n count ordered′ corners′ e h o c g k =
+    let r = subst (λ z. HullResult list ordered corners z n count ordered′ corners′) e h in (
+      begins (lists-unique (Of (points list)) (r .in-order) o (r .order) g) (r .points) (r .ordered-room),
+      begins (corner-list-unique (points list) (r .corner-list) c (r .corner) k) (r .corners-count) (r .corner-room),
+    )
 
 no-exactly : (s m : List Point) (verdict : ℕ) → MissingList s m → verdict ≡ verdictOf m → (verdict ≡ no) ↔ (Convex s → ⊥)
 no-exactly s [] verdict h e = ((λ n. absurd (omega (arith, e, n))), (λ n. absurd (n (convex-exactly s [] h .1 refl))))
@@ -63,19 +48,21 @@ no-exactly s (p ∷ m) verdict h e = ((λ n convex. convex p (h .only p (inl ref
 
 says : (s : List Point) (number verdict : ℕ) (first : Point) → number ≡ 0 → VerdictResult s number verdict first → (verdict ≡ yes) ↔ Convex s
     → (m : List Point) → MissingList s m → Says s m verdict first
-says s zero verdict first e h y m g =
-    let u = missing-list-unique s (h .missing) m (h .listed) g in
+says s number verdict first e h y m g =
+    let r = subst (λ z. VerdictResult s z verdict first) e h in
+    let u = missing-list-unique s (r .missing) m (r .listed) g in
     record {
       yes-exactly = y;
-      no-exactly = no-exactly s m verdict g (h .verdict-is ∙ ap verdictOf u);
-      first-is = h .first-is ∙ ap firstOf u;
+      no-exactly = no-exactly s m verdict g (r .verdict-is ∙ ap verdictOf u);
+      first-is = r .first-is ∙ ap firstOf u;
     }
-says s (suc number) verdict first e h y m g = absurd (omega (arith, e))
 
 -- ---- the calls
 pub order-published : (list room : List ℤ) (a : Ordered) (after : List ℤ) → OrderPromise list room a after → a .number ≡ 0
     → (o : List Point) → Lists (Of (points list)) o → Begins o (a .points) room after
-order-published list room a after h e = order-begins list room (a .number) (a .points) after e (h .result)
+order-published list room a after h e o g =
+    let r = subst (λ z. OrderResult list room z (a .points) after) e (h .result) in
+    begins (lists-unique (Of (points list)) (r .0) o (r .1) g) (r .2) (r .3)
 
 pub hull-published : (list ordered corners : List ℤ) (a : Hulled) (ordered′ corners′ : List ℤ) → HullPromise list ordered corners a ordered′ corners′
     → a .number ≡ 0 → (o c : List Point) → Lists (Of (points list)) o → CornerList (points list) c
@@ -102,18 +89,20 @@ pub report-published : (list ordered corners missing : List ℤ) (a : Reported) 
     → Begins o (a .points) ordered ordered′ × Begins c (a .corners) corners corners′ × Begins m (a .missing) missing missing′
     × Says (points list) m (a .verdict) (record { x = a .x; y = a .y })
 report-published list ordered corners missing a ordered′ corners′ missing′ h e o c m g k l =
-    let b = hull-begins list ordered corners (a .number) (a .points) (a .corners) ordered′ corners′ e (h .hull) o c g k in (
+    let b = hull-begins list ordered corners (a .number) (a .points) (a .corners) ordered′ corners′ e (h .hull) o c g k in
+    let r = subst (λ z. MissingResult (points list) missing z (a .missing) missing′) e (h .listed) in (
       b .0,
       b .1,
-      missing-begins (points list) missing (a .number) (a .missing) missing′ e (h .listed) m l,
+      begins (missing-list-unique (points list) (r .0) m (r .1) l) (r .2) (r .3),
       says (points list) (a .number) (a .verdict) (record { x = a .x; y = a .y }) e (h .verdict)
           (report-yes list ordered corners missing a ordered′ corners′ missing′ h e) m l,
     )
 
 pub rebuild-published : (corners missing room : List ℤ) (a : Rebuilt) (after : List ℤ) → RebuildPromise corners missing room a after → a .number ≡ 0
     → (s : List Point) → Lists (Kept (points corners) (points missing)) s → Begins s (a .points) room after
-rebuild-published corners missing room a after h e =
-    rebuild-begins (points corners) (points missing) room (a .number) (a .points) after e (h .result)
+rebuild-published corners missing room a after h e s g =
+    let r = subst (λ z. RebuildResult (points corners) (points missing) room z (a .points) after) e (h .result) in
+    begins (lists-unique (Kept (points corners) (points missing)) (r .0) s (r .1) g) (r .2) (r .3)
 
 -- ---- given room, Report takes every list that is sound, and answers as the definition says
 pub report-of-sound : (list ordered corners missing : List ℤ) (c m : List Point)

@@ -35,47 +35,33 @@ ruled {t} {number} {place} numbered g before = record {
     zeroed : number ≡ 0 → Gives t 0 place
     zeroed e = subst (λ n. Gives t n place) e g
 
--- ---- what is left by a number that is not 0
-module _ (list : List ℤ) where
-  order-unchanged : (room : List ℤ) (number count : ℕ) (after : List ℤ) → OrderResult list room number count after → (number ≡ 0 → ⊥)
-      → (count ≡ 0) × (after ≡ room)
-  order-unchanged room zero count after h n = absurd (n refl)
-  order-unchanged room (suc number) count after h n = h
-
-  hull-unchanged : (ordered corners : List ℤ) (number n count : ℕ) (ordered′ corners′ : List ℤ)
-      → HullResult list ordered corners number n count ordered′ corners′ → (number ≡ 0 → ⊥)
-      → (n ≡ 0) × (count ≡ 0) × (ordered′ ≡ ordered) × (corners′ ≡ corners)
-  hull-unchanged ordered corners zero n count ordered′ corners′ h e = absurd (e refl)
-  hull-unchanged ordered corners (suc number) n count ordered′ corners′ h e = h
-
-module _ (s : List Point) where
-  no-verdict : (number verdict : ℕ) (first : Point) → VerdictResult s number verdict first → (number ≡ 0 → ⊥)
-      → (verdict ≡ neither) × (first ≡ origin)
-  no-verdict zero verdict first h n = absurd (n refl)
-  no-verdict (suc number) verdict first h n = h
-
-  missing-unchanged : (room : List ℤ) (number count : ℕ) (room′ : List ℤ) → MissingResult s room number count room′ → (number ≡ 0 → ⊥)
-      → (count ≡ 0) × (room′ ≡ room)
-  missing-unchanged room zero count room′ h n = absurd (n refl)
-  missing-unchanged room (suc number) count room′ h n = h
-
-rebuild-unchanged : (c m : List Point) (room : List ℤ) (number count : ℕ) (after : List ℤ) → RebuildResult c m room number count after
-    → (number ≡ 0 → ⊥) → (count ≡ 0) × (after ≡ room)
-rebuild-unchanged c m room zero count after h n = absurd (n refl)
-rebuild-unchanged c m room (suc number) count after h n = h
+-- what a number that is not 0 leaves
+left : {X : Type 0} (Result : ℕ → Type 0) → ((n : ℕ) → Result (suc n) → X) → (number : ℕ) → Result number → (number ≡ 0 → ⊥) → X
+left Result f zero h n = absurd (n refl)
+left Result f (suc number) h n = f number h
 
 -- ---- the calls
 pub order-ruled : (list room : List ℤ) (a : Ordered) (after : List ℤ) → OrderPromise list room a after
     → Ruled (orderRows list room accepted) (a .number) (a .place) ((a .points ≡ 0) × (after ≡ room))
 order-ruled list room a after h =
-    ruled (tt, (tt, (tt, (tt, (tt, tt))))) (h .gives) (order-unchanged list room (a .number) (a .points) after (h .result))
+    ruled (tt, (tt, (tt, (tt, (tt, tt))))) (h .gives) (left (λ n. OrderResult list room n (a .points) after) (λ n r. r) (a .number) (h .result))
+
+hull-left : (list ordered corners : List ℤ) (number n count : ℕ) (ordered′ corners′ : List ℤ)
+    → HullResult list ordered corners number n count ordered′ corners′ → (number ≡ 0 → ⊥)
+    → (n ≡ 0) × (count ≡ 0) × (ordered′ ≡ ordered) × (corners′ ≡ corners)
+hull-left list ordered corners number n count ordered′ corners′ =
+    left (λ k. HullResult list ordered corners k n count ordered′ corners′) (λ k r. r) number
+
+verdict-left : (s : List Point) (number verdict : ℕ) (first : Point) → VerdictResult s number verdict first → (number ≡ 0 → ⊥)
+    → (verdict ≡ neither) × (first ≡ origin)
+verdict-left s number verdict first = left (λ k. VerdictResult s k verdict first) (λ k r. r) number
 
 pub hull-ruled : (list ordered corners : List ℤ) (a : Hulled) (ordered′ corners′ : List ℤ) → HullPromise list ordered corners a ordered′ corners′
     → Ruled (hullRows list ordered corners accepted) (a .number) (a .place)
     ((a .points ≡ 0) × (a .corners ≡ 0) × (ordered′ ≡ ordered) × (corners′ ≡ corners))
 hull-ruled list ordered corners a ordered′ corners′ h =
     ruled (tt, (tt, (tt, (tt, (tt, (tt, tt)))))) (h .gives)
-    (hull-unchanged list ordered corners (a .number) (a .points) (a .corners) ordered′ corners′ (h .result))
+    (hull-left list ordered corners (a .number) (a .points) (a .corners) ordered′ corners′ (h .result))
 
 pub verdict-ruled : (list ordered corners : List ℤ) (a : Judged) (ordered′ corners′ : List ℤ) → VerdictPromise list ordered corners a ordered′ corners′
     → Ruled (hullRows list ordered corners accepted) (a .number) (a .place)
@@ -84,9 +70,9 @@ pub verdict-ruled : (list ordered corners : List ℤ) (a : Judged) (ordered′ c
 verdict-ruled list ordered corners a ordered′ corners′ h =
     ruled (tt, (tt, (tt, (tt, (tt, (tt, tt)))))) (h .gives)
     (λ n.
-    let u = hull-unchanged list ordered corners (a .number) (a .points) (a .corners) ordered′ corners′ (h .hull) n in
-    let v = no-verdict (points list) (a .number) (a .verdict) (record { x = a .x; y = a .y }) (h .verdict) n in
-    (u .0, u .1, v .0, v .1, u .2, u .3))
+      let u = hull-left list ordered corners (a .number) (a .points) (a .corners) ordered′ corners′ (h .hull) n in
+      let v = verdict-left (points list) (a .number) (a .verdict) (record { x = a .x; y = a .y }) (h .verdict) n in
+      (u .0, u .1, v .0, v .1, u .2, u .3))
 
 pub report-ruled : (list ordered corners missing : List ℤ) (a : Reported) (ordered′ corners′ missing′ : List ℤ)
     → ReportPromise list ordered corners missing a ordered′ corners′ missing′
@@ -96,13 +82,13 @@ pub report-ruled : (list ordered corners missing : List ℤ) (a : Reported) (ord
 report-ruled list ordered corners missing a ordered′ corners′ missing′ h =
     ruled (tt, (tt, (tt, (tt, (tt, (tt, (tt, tt))))))) (h .gives)
     (λ n.
-    let u = hull-unchanged list ordered corners (a .number) (a .points) (a .corners) ordered′ corners′ (h .hull) n in
-    let v = no-verdict (points list) (a .number) (a .verdict) (record { x = a .x; y = a .y }) (h .verdict) n in
-    let m = missing-unchanged (points list) missing (a .number) (a .missing) missing′ (h .listed) n in
-    (u .0, u .1, m .0, v .0, v .1, u .2, u .3, m .1))
+      let u = hull-left list ordered corners (a .number) (a .points) (a .corners) ordered′ corners′ (h .hull) n in
+      let v = verdict-left (points list) (a .number) (a .verdict) (record { x = a .x; y = a .y }) (h .verdict) n in
+      let m = left (λ k. MissingResult (points list) missing k (a .missing) missing′) (λ k r. r) (a .number) (h .listed) n in
+      (u .0, u .1, m .0, v .0, v .1, u .2, u .3, m .1))
 
 pub rebuild-ruled : (corners missing room : List ℤ) (a : Rebuilt) (after : List ℤ) → RebuildPromise corners missing room a after
     → Ruled (rebuildTable corners missing room) (a .number) (a .place) ((a .points ≡ 0) × (after ≡ room))
 rebuild-ruled corners missing room a after h =
     ruled (tt, (tt, (tt, (tt, (tt, (tt, (tt, (tt, (tt, tt))))))))) (h .gives)
-    (rebuild-unchanged (points corners) (points missing) room (a .number) (a .points) after (h .result))
+    (left (λ n. RebuildResult (points corners) (points missing) room n (a .points) after) (λ n r. r) (a .number) (h .result))
