@@ -97,7 +97,7 @@ module _ (ordered corners missing : List ℤ) (a : Reported) (ordered′ corners
       → ReportPromise grainB ordered corners missing a ordered′ corners′ missing′ → ⊥
   declining-everything-caught wide corner-wide declines h = declines (of-B wide corner-wide h .0)
 
-  -- "One that reports every grain alike: demand 2 at A and B": in any rooms the answers differ
+  -- "One that reports every grain alike: demand 2 at A and B": no outcome is allowed for both, in whatever rooms
   pub reporting-alike-caught : ReportPromise grainA ordered corners missing a ordered′ corners′ missing′
       → ReportPromise grainB ordered corners missing a ordered′ corners′ missing′ → ⊥
   reporting-alike-caught h g =
@@ -115,21 +115,21 @@ module _ (ordered corners missing : List ℤ) (a : Reported) (ordered′ corners
       let c = corner-list-exists (points list) in
       other (report-published list ordered corners missing a ordered′ corners′ missing′ h e (o .0) (c .0) m (o .1) (c .1) k .2 .counted)
 
+  pub invented-count-at-D-caught : RoomFor 2 ordered → RoomFor 2 corners → RoomFor 1 missing → (a .missing ≡ 1 → ⊥)
+      → ReportPromise grainD ordered corners missing a ordered′ corners′ missing′ → ⊥
+  invented-count-at-D-caught wide corner-wide missing-wide other h = other (of-D wide corner-wide missing-wide h .1 .counted)
+
   -- "The fifth orders the points in Report and only claims corners and missing points: demand 2 at D": whatever it claims, D's corners and D's
-  -- missing point have to stand in the rooms. A plain copy of the points, with nothing missing, doesn't pass either.
-  pub claiming-caught : RoomFor 2 ordered → RoomFor 2 corners → RoomFor 1 missing
+  -- missing point have to stand in the rooms
+  pub only-claiming-caught : RoomFor 2 ordered → RoomFor 2 corners → RoomFor 1 missing
       → ((take 4 corners′ ≡ numbers (at 0 0 ∷ at 2 4 ∷ [])) × (take 2 missing′ ≡ numbers (at 1 2 ∷ [])) → ⊥)
       → ReportPromise grainD ordered corners missing a ordered′ corners′ missing′ → ⊥
-  claiming-caught wide corner-wide missing-wide unwritten h =
+  only-claiming-caught wide corner-wide missing-wide unwritten h =
       let r = of-D wide corner-wide missing-wide h in
       unwritten (
         ap (λ n. take (2 * n) corners′) (sym (r .0 .counted)) ∙ r .0 .front,
         ap (λ n. take (2 * n) missing′) (sym (r .1 .counted)) ∙ r .1 .front,
       )
-
-  pub copying-caught : RoomFor 2 ordered → RoomFor 2 corners → RoomFor 1 missing → a .missing ≡ 0
-      → ReportPromise grainD ordered corners missing a ordered′ corners′ missing′ → ⊥
-  copying-caught wide corner-wide missing-wide none h = omega (arith, of-D wide corner-wide missing-wide h .1 .counted)
 
 -- "One that writes nothing: the corners of B under demand 2": the corner room reads as before, and did not begin with (5,5)
 pub writing-nothing-caught : (ordered corners missing : List ℤ) (a : Reported) (ordered′ missing′ : List ℤ) → RoomFor 1 ordered → RoomFor 1 corners

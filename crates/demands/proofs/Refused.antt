@@ -70,9 +70,9 @@ pub verdict-ruled : (list ordered corners : List ℤ) (a : Judged) (ordered′ c
 verdict-ruled list ordered corners a ordered′ corners′ h =
     ruled (tt, (tt, (tt, (tt, (tt, (tt, tt)))))) (h .gives)
     (λ n.
-      let u = hull-left list ordered corners (a .number) (a .points) (a .corners) ordered′ corners′ (h .hull) n in
-      let v = verdict-left (points list) (a .number) (a .verdict) (record { x = a .x; y = a .y }) (h .verdict) n in
-      (u .0, u .1, v .0, v .1, u .2, u .3))
+    let u = hull-left list ordered corners (a .number) (a .points) (a .corners) ordered′ corners′ (h .hull) n in
+    let v = verdict-left (points list) (a .number) (a .verdict) (record { x = a .x; y = a .y }) (h .verdict) n in
+    (u .0, u .1, v .0, v .1, u .2, u .3))
 
 pub report-ruled : (list ordered corners missing : List ℤ) (a : Reported) (ordered′ corners′ missing′ : List ℤ)
     → ReportPromise list ordered corners missing a ordered′ corners′ missing′
@@ -82,10 +82,10 @@ pub report-ruled : (list ordered corners missing : List ℤ) (a : Reported) (ord
 report-ruled list ordered corners missing a ordered′ corners′ missing′ h =
     ruled (tt, (tt, (tt, (tt, (tt, (tt, (tt, tt))))))) (h .gives)
     (λ n.
-      let u = hull-left list ordered corners (a .number) (a .points) (a .corners) ordered′ corners′ (h .hull) n in
-      let v = verdict-left (points list) (a .number) (a .verdict) (record { x = a .x; y = a .y }) (h .verdict) n in
-      let m = left (λ k. MissingResult (points list) missing k (a .missing) missing′) (λ k r. r) (a .number) (h .listed) n in
-      (u .0, u .1, m .0, v .0, v .1, u .2, u .3, m .1))
+    let u = hull-left list ordered corners (a .number) (a .points) (a .corners) ordered′ corners′ (h .hull) n in
+    let v = verdict-left (points list) (a .number) (a .verdict) (record { x = a .x; y = a .y }) (h .verdict) n in
+    let m = left (λ k. MissingResult (points list) missing k (a .missing) missing′) (λ k r. r) (a .number) (h .listed) n in
+    (u .0, u .1, m .0, v .0, v .1, u .2, u .3, m .1))
 
 pub rebuild-ruled : (corners missing room : List ℤ) (a : Rebuilt) (after : List ℤ) → RebuildPromise corners missing room a after
     → Ruled (rebuildTable corners missing room) (a .number) (a .place) ((a .points ≡ 0) × (after ≡ room))
