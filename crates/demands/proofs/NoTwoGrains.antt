@@ -17,11 +17,12 @@ use Rattle.lattice.specs.Room.{numbers}
 use Rattle.lattice.proofs.Lists.{either, all-in, in-all}
 use Rattle.lattice.proofs.Places.{lt-or-le}
 use Rattle.lattice.proofs.Frame.{hull-in-range}
-use Rattle.lattice.proofs.Numbers.{points-numbers}
+use Rattle.lattice.proofs.Numbers.{points-numbers, numbers-tell, numbers-even, even-numbers}
 use Rattle.lattice.proofs.SameMembers.{Same}
 use Rattle.lattice.proofs.RowLists.{row-order-exists}
 use Rattle.lattice.proofs.CornerLists.{corner-list-exists}
 use Rattle.lattice.proofs.MissingLists.{missing-list-exists, kept-list-exists}
+use Rattle.lattice.proofs.Refusals.{within-range}
 use Rattle.lattice.proofs.Demand.{report-tells}
 use Rattle.order.specs.Row.{Sound}
 use Rattle.report.specs.declared.Reported.{Reported}
@@ -30,8 +31,8 @@ use Rattle.rebuild.specs.declared.Rebuilt.{Rebuilt}
 use Rattle.rebuild.specs.Rebuild.{rebuildTable, RebuildPromise}
 use Rattle.rebuild.proofs.WayBack as WayBack
 use Rattle.demands.specs.Demands.{NoneApplies, Begins, FullReport, pointsIn, cornersIn, missingIn, RoomFor}
-use Rattle.demands.proofs.Passing.{within-range, counted-once}
-use Rattle.demands.proofs.Rooms.{begins, numbers-tell, numbers-even, even-numbers}
+use Rattle.demands.proofs.Passing.{counted-once}
+use Rattle.demands.proofs.Rooms.{begins}
 use Rattle.demands.proofs.Published.{report-published, rebuild-published, report-of-sound}
 use Rattle.demands.proofs.Refused.{report-ruled, rebuild-ruled}
 

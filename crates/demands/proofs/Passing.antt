@@ -10,14 +10,11 @@ use lib.IntN.{ℤ}
 use Rattle.lattice.specs.Point.{Point, InRange, points, point, All, Pairs, Before, Lists}
 use Rattle.lattice.specs.Hull.{Of, CornerList, MissingList}
 use Rattle.lattice.specs.Refusal.{Table, accepted, _when_else_, Gives, AtPoint, OutOfRange, Repeats, listRows}
-use Rattle.lattice.proofs.Lists.{either}
-use Rattle.lattice.proofs.Places.{place-all, all-place, pairs-place, place-pairs}
+use Rattle.lattice.proofs.Places.{all-place, pairs-place, place-pairs}
 use Rattle.lattice.proofs.RowOrder.{before-asymmetric}
-use Rattle.lattice.proofs.Decide.{yes-or-no}
 use Rattle.lattice.proofs.RowLists.{row-order-length}
 use Rattle.lattice.proofs.CornerLists.{corner-list-unique}
 use Rattle.lattice.proofs.MissingLists.{missing-list-unique}
-use Rattle.lattice.proofs.Refusals.{range?}
 use Rattle.lattice.proofs.Tables.{Numbered, whole-never}
 use Rattle.order.specs.Row.{Sound}
 use Rattle.report.specs.Report.{reportRows}
@@ -42,9 +39,6 @@ all-pass accepted h = (refl, refl)
 all-pass (k when P else t) h = inr (h .0, all-pass t (h .1))
 
 -- ---- rows
-pub within-range : (l : List Point) → ((j : ℕ) → AtPoint OutOfRange l j → ⊥) → All InRange l
-within-range l f = place-all InRange l (λ j k. either (yes-or-no (range? (point l j))) (λ h. h) (λ n. absurd (f j (k, n))))
-
 pub none-out-of-range : (l : List Point) → All InRange l → (j : ℕ) → AtPoint OutOfRange l j → ⊥
 none-out-of-range l h j (k, n) = n (all-place InRange l h j k)
 

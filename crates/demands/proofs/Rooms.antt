@@ -1,15 +1,13 @@
--- What stands at the front of a room that holds some points, and behind it; a list of even length as the numbers of its points. Assumes nothing.
+-- What stands at the front of a room that holds some points, and behind it. Assumes nothing.
 use mathlib.Core.Path.{_≡_, refl, sym, _∙_, ap}
-use mathlib.Core.List.{List, [], _∷_}
+use mathlib.Core.List.{List}
 use Prim.Native.Nat.{ℕ, _*_}
-use native.Mathlib.Omega.{arith}
 use lib.ListN.{length, take, drop}
 use lib.Seq.{take-at}
 use lib.IntN.{ℤ}
 use Rattle.lattice.specs.Point.{Point, points}
-use Rattle.lattice.specs.Refusal.{Odd}
 use Rattle.lattice.specs.Room.{numbers, holding}
-use Rattle.lattice.proofs.Numbers.{numbers-length, points-numbers}
+use Rattle.lattice.proofs.Numbers.{numbers-length}
 use Rattle.lattice.proofs.Rooms.{holding-rest}
 use Rattle.demands.specs.Demands.{Begins}
 
@@ -20,16 +18,3 @@ begins {o} {l} {count} {room} {after} e n w = record {
   front = (λ i. take (2 * n i) (w i)) ∙ take-at (numbers o) (drop (2 * length o) room) (2 * length o) (numbers-length o) ∙ ap numbers e;
   rest = (λ i. drop (2 * n i) (w i)) ∙ holding-rest o (length o) refl room ∙ ap (λ k. drop (2 * k) room) (sym n);
 }
-
--- numbers tell their points
-pub numbers-tell : {l m : List Point} → numbers l ≡ numbers m → l ≡ m
-numbers-tell {l} {m} e = sym (points-numbers l) ∙ ap points e ∙ points-numbers m
-
--- numbers of points are even in number, and such a list is the numbers of its points
-pub numbers-even : {a : List ℤ} (l : List Point) → a ≡ numbers l → Odd a → ⊥
-numbers-even l e h = omega (arith, h, ap length e, numbers-length l)
-
-pub even-numbers : (a : List ℤ) → (Odd a → ⊥) → numbers (points a) ≡ a
-even-numbers [] n = refl
-even-numbers (x ∷ []) n = absurd (n refl)
-even-numbers (x ∷ y ∷ a) n = ap (λ l. x ∷ y ∷ l) (even-numbers a (λ h. n (omega (arith, h))))

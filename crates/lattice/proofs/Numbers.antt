@@ -6,6 +6,7 @@ use native.Mathlib.Omega.{arith}
 use lib.ListN.{length, getD, take, drop}
 use lib.IntN.{ℤ, pos}
 use Rattle.lattice.specs.Point.{Point, points, point}
+use Rattle.lattice.specs.Refusal.{Odd}
 use Rattle.lattice.specs.Room.{numbers}
 use Rattle.lattice.proofs.HalfPlane.{point-equal}
 
@@ -47,6 +48,19 @@ numbers-append (p ∷ l) m = ap (λ a. p .x ∷ p .y ∷ a) (numbers-append l m)
 pub points-numbers : (l : List Point) → points (numbers l) ≡ l
 points-numbers [] = refl
 points-numbers (p ∷ l) = ap (λ m. p ∷ m) (points-numbers l)
+
+-- numbers tell their points
+pub numbers-tell : {l m : List Point} → numbers l ≡ numbers m → l ≡ m
+numbers-tell {l} {m} e = sym (points-numbers l) ∙ ap points e ∙ points-numbers m
+
+-- the numbers of points are even in number, and a list of even length is the numbers of its points
+pub numbers-even : {a : List ℤ} (l : List Point) → a ≡ numbers l → Odd a → ⊥
+numbers-even l e h = omega (arith, h, ap length e, numbers-length l)
+
+pub even-numbers : (a : List ℤ) → (Odd a → ⊥) → numbers (points a) ≡ a
+even-numbers [] n = refl
+even-numbers (x ∷ []) n = absurd (n refl)
+even-numbers (x ∷ y ∷ a) n = ap (λ l. x ∷ y ∷ l) (even-numbers a (λ h. n (omega (arith, h))))
 
 -- the points of a part of the list are a part of its points
 twice : (n : ℕ) → 2 * suc n ≡ suc (suc (2 * n))

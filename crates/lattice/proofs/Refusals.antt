@@ -8,10 +8,10 @@ use native.Mathlib.Omega.{arith}
 use lib.Dec.{T, ltb, ltb→lt, lt→ltb, eqb, eqb→eq, eqb-refl}
 use lib.ListN.{length}
 use lib.IntN.{ℤ}
-use Rattle.lattice.specs.Point.{Point, least, greatest, InRange, most, points, point, Before}
-use Rattle.lattice.specs.Refusal.{First, Table, accepted, _when_else_, Gives, Whole, AtPoint, Repeats, Strays, listRows, rebuildRows}
+use Rattle.lattice.specs.Point.{Point, least, greatest, InRange, most, points, point, All, Before}
+use Rattle.lattice.specs.Refusal.{First, Table, accepted, _when_else_, Gives, Whole, AtPoint, Repeats, Strays, OutOfRange, listRows, rebuildRows}
 use Rattle.lattice.proofs.Lists.{either}
-use Rattle.lattice.proofs.Places.{lt-or-le}
+use Rattle.lattice.proofs.Places.{lt-or-le, place-all}
 use Rattle.lattice.proofs.Decide.{Decided, both, one-of, in-words, negated, yes-or-no, le?, same?, before?, in?, hull?, cornerList?}
 
 -- ---- any two outcomes of a table coincide
@@ -130,6 +130,10 @@ range? p =
     in-words (λ h. record { x-from = h .0 .0; x-to = h .0 .1; y-from = h .1 .0; y-to = h .1 .1 })
     (λ h. ((h .x-from, h .x-to), (h .y-from, h .y-to)))
     (both (both (le? least (p .x)) (le? (p .x) greatest)) (both (le? least (p .y)) (le? (p .y) greatest)))
+
+-- a list with no point out of range
+pub within-range : (l : List Point) → ((i : ℕ) → AtPoint OutOfRange l i → ⊥) → All InRange l
+within-range l f = place-all InRange l (λ i h. either (yes-or-no (range? (point l i))) (λ r. r) (λ n. absurd (f i (h, n))))
 
 abbrev pub list-runs : (a : List ℤ) {later : Table} → Runs later → Runs (listRows a later)
 list-runs a r =

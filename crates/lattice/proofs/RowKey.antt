@@ -1,6 +1,6 @@
 -- Row order by a number: x + K y orders a list of points by rows where K is more than its width, and key p = 16384 y + x orders all points
 -- in range. So what holds of linear functionals holds of row order. Assumes nothing of a list; the range where `key` is named.
-use mathlib.Core.Path.{_≡_, refl, sym}
+use mathlib.Core.Path.{refl, sym}
 use mathlib.Core.Logic.{inl, inr}
 use mathlib.Core.List.{List, [], _∷_}
 use Prim.Native.Nat.{ℕ}

@@ -6,15 +6,15 @@ use Prim.Native.Nat.{ℕ, zero, suc, _+_, _-_, _*_, _/_, _≤_, _<_}
 use native.Mathlib.Omega.{arith}
 use lib.ListN.{length, take}
 use lib.IntN.{ℤ}
-use Rattle.lattice.specs.Point.{Point, InRange, most, points, point, In, All, Pairs, Before, Lists}
+use Rattle.lattice.specs.Point.{Point, most, points, In, All, Pairs, Before, Lists}
 use Rattle.lattice.specs.Hull.{InHull, Of, Kept}
 use Rattle.lattice.specs.Refusal.{Table, accepted, Gives, Misplaced, rebuildRows}
 use Rattle.lattice.specs.Room.{holding}
 use Rattle.lattice.proofs.Lists.{either, all-in, all-map}
 use Rattle.lattice.proofs.Numbers.{points-length}
-use Rattle.lattice.proofs.Places.{lt-or-le, place-all}
+use Rattle.lattice.proofs.Places.{lt-or-le}
 use Rattle.lattice.proofs.Decide.{yes-or-no, in?, hull?}
-use Rattle.lattice.proofs.Refusals.{gives-unique, range?}
+use Rattle.lattice.proofs.Refusals.{gives-unique, within-range}
 use Rattle.lattice.proofs.Tables.{_then_, Numbered, declined-before, passed-before, whole-first, whole-never}
 use Rattle.lattice.proofs.SameMembers.{lists-unique, lists-same}
 use Rattle.lattice.proofs.RowLists.{lists-split}
@@ -56,12 +56,9 @@ taken corners missing place (inr (odd, inr (more, inl h))) = absurd (omega (arit
 taken corners missing place (inr (odd, inr (more, inr (corner, inl h)))) = absurd (omega (arith, h .0))
 taken corners missing place (inr (odd, inr (more, inr (corner, inr (missing-point, h))))) = record {
   few = either (lt-or-le most (length (points corners))) (λ l. absurd (more 0 (refl, l))) (λ l. l);
-  corners-range = ranged (points corners) (λ j l n. corner j (l, n));
-  missing-range = ranged (points missing) (λ j l n. missing-point j (l, n));
+  corners-range = within-range (points corners) corner;
+  missing-range = within-range (points missing) missing-point;
 }
-  where
-    ranged : (l : List Point) → ((j : ℕ) → j < length l → (InRange (point l j) → ⊥) → ⊥) → All InRange l
-    ranged l f = place-all InRange l (λ j k. either (yes-or-no (range? (point l j))) (λ h. h) (λ n. absurd (f j k n)))
 
 -- ---- corners and missing points that pass rows 8 to 10
 walked : (outline : List ℕ) (missing : List ℤ) → Below outline → (place : ℕ)
