@@ -16,6 +16,9 @@ use Rattle.report.specs.declared.Judged.{Judged}
 use Rattle.report.specs.declared.Reported.{Reported}
 use Rattle.report.specs.Report.{VerdictPromise, ReportPromise}
 use Rattle.report.proofs.Pinned.{verdict-pinned, report-pinned}
+use Rattle.figures.specs.declared.Figured.{Figured}
+use Rattle.figures.specs.Figures.{FiguresPromise}
+use Rattle.figures.proofs.Promised.{figures-pinned}
 use Rattle.rebuild.specs.declared.Rebuilt.{Rebuilt}
 use Rattle.rebuild.specs.Rebuild.{RebuildPromise}
 use Rattle.rebuild.proofs.Rebuilding.{rebuild-pinned}
@@ -31,6 +34,8 @@ pub record EveryCallPinned : Type 0 where
       → Pinned (Judged × List ℤ × List ℤ) (λ r. VerdictPromise list ordered corners (r .0) (r .1) (r .2))
   pub report : (list ordered corners missing : List ℤ)
       → Pinned (Reported × List ℤ × List ℤ × List ℤ) (λ r. ReportPromise list ordered corners missing (r .0) (r .1) (r .2) (r .3))
+  pub figures : (list ordered corners : List ℤ)
+      → Pinned (Figured × List ℤ × List ℤ) (λ r. FiguresPromise list ordered corners (r .0) (r .1) (r .2))
   pub rebuild : (corners missing room : List ℤ) → Pinned (Rebuilt × List ℤ) (λ r. RebuildPromise corners missing room (r .0) (r .1))
 
 pub every-call-pinned : EveryCallPinned
@@ -45,5 +50,7 @@ every-call-pinned = record {
   report = λ list ordered corners missing a b h g.
       let e = report-pinned list ordered corners missing (a .0) (b .0) (a .1) (b .1) (a .2) (b .2) (a .3) (b .3) h g in
       λ i. (e .0 i, e .1 i, e .2 i, e .3 i);
+  figures = λ list ordered corners a b h g.
+      let e = figures-pinned list ordered corners (a .0) (b .0) (a .1) (b .1) (a .2) (b .2) h g in λ i. (e .0 i, e .1 i, e .2 i);
   rebuild = λ corners missing room a b h g. let e = rebuild-pinned corners missing room (a .0) (b .0) (a .1) (b .1) h g in λ i. (e .0 i, e .1 i);
 }

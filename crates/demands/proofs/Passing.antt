@@ -24,11 +24,6 @@ use Rattle.demands.specs.Demands.{NoneApplies, RoomFor}
 none-is-numbered : (k : ℕ) → T (ltb 0 k) → 0 ≡ k → ⊥
 none-is-numbered k u e = omega (arith, ltb→lt 0 k u)
 
-pub accepted-place : (t : Table) → Numbered t → (i : ℕ) → Gives t 0 i → i ≡ 0
-accepted-place accepted n i h = h .1
-accepted-place (k when P else t) n i (inl h) = absurd (none-is-numbered k (n .0) (h .0))
-accepted-place (k when P else t) n i (inr h) = accepted-place t (n .1) i (h .1)
-
 pub none-applies : (t : Table) → Numbered t → (i : ℕ) → Gives t 0 i → NoneApplies t
 none-applies accepted n i h = tt
 none-applies (k when P else t) n i (inl h) = absurd (none-is-numbered k (n .0) (h .0))

@@ -25,6 +25,8 @@ use Rattle.report.specs.declared.Judged.{Judged}
 use Rattle.report.specs.declared.Reported.{Reported}
 use Rattle.report.specs.Report.{no, yes, verdictOf, VerdictResult, VerdictPromise, MissingResult, ReportPromise}
 use Rattle.report.proofs.Pinned.{verdict-yes, report-yes}
+use Rattle.figures.specs.declared.Figured.{Figured}
+use Rattle.figures.specs.Figures.{numberOf, FiguresOf, FiguresPromise}
 use Rattle.rebuild.specs.declared.Rebuilt.{Rebuilt}
 use Rattle.rebuild.specs.Rebuild.{RebuildResult, RebuildPromise}
 use Rattle.demands.specs.Demands.{Begins, Says, RoomFor}
@@ -96,6 +98,18 @@ report-published list ordered corners missing a ordered′ corners′ missing′
       begins (missing-list-unique (points list) (r .0) m (r .1) l) (r .2) (r .3),
       says (points list) (a .number) (a .verdict) (record { x = a .x; y = a .y }) e (h .verdict)
           (report-yes list ordered corners missing a ordered′ corners′ missing′ h e) m l,
+    )
+
+-- Figures shows no counts: its rooms hold as many points as the definition has
+pub figures-published : (list ordered corners : List ℤ) (a : Figured) (ordered′ corners′ : List ℤ)
+    → FiguresPromise list ordered corners a ordered′ corners′ → numberOf a ≡ 0
+    → (o c : List Point) → Lists (Of (points list)) o → CornerList (points list) c
+    → Begins o (length o) ordered ordered′ × Begins c (length c) corners corners′ × FiguresOf (points list) a
+figures-published list ordered corners a ordered′ corners′ h e o c g k =
+    let b = hull-begins list ordered corners (numberOf a) (h .points-count) (h .corners-count) ordered′ corners′ e (h .hull) o c g k in (
+      subst (λ n. Begins o n ordered ordered′) (b .0 .counted) (b .0),
+      subst (λ n. Begins c n corners corners′) (b .1 .counted) (b .1),
+      h .figures,
     )
 
 pub rebuild-published : (corners missing room : List ℤ) (a : Rebuilt) (after : List ℤ) → RebuildPromise corners missing room a after → a .number ≡ 0

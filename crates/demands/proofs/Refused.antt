@@ -9,7 +9,7 @@ use lib.IntN.{ℤ}
 use Rattle.lattice.specs.Point.{Point, origin, points}
 use Rattle.lattice.specs.Refusal.{Table, accepted, Gives}
 use Rattle.lattice.proofs.Refusals.{gives-unique}
-use Rattle.lattice.proofs.Tables.{Numbered}
+use Rattle.lattice.proofs.Tables.{Numbered, accepted-place}
 use Rattle.order.specs.declared.Ordered.{Ordered}
 use Rattle.order.specs.Order.{orderRows, OrderResult, OrderPromise}
 use Rattle.hull.specs.declared.Hulled.{Hulled}
@@ -17,10 +17,13 @@ use Rattle.hull.specs.Hull.{hullRows, HullResult, HullPromise}
 use Rattle.report.specs.declared.Judged.{Judged}
 use Rattle.report.specs.declared.Reported.{Reported}
 use Rattle.report.specs.Report.{neither, VerdictResult, VerdictPromise, reportRows, MissingResult, ReportPromise}
+use Rattle.figures.specs.declared.Figured.{Figured}
+use Rattle.figures.specs.declared.Figured.the-variants.{Refused, None, Given}
+use Rattle.figures.specs.Figures.{numberOf, placeOf, FiguresOf, FiguresPromise}
 use Rattle.rebuild.specs.declared.Rebuilt.{Rebuilt}
 use Rattle.rebuild.specs.Rebuild.{RebuildResult, rebuildTable, RebuildPromise}
 use Rattle.demands.specs.Demands.{Ruled}
-use Rattle.demands.proofs.Passing.{accepted-place, none-applies, all-pass}
+use Rattle.demands.proofs.Passing.{none-applies, all-pass}
 
 ruled : {t : Table} {number place : ℕ} {AsBefore : Type 0} → Numbered t → Gives t number place → ((number ≡ 0 → ⊥) → AsBefore)
     → Ruled t number place AsBefore
@@ -86,6 +89,20 @@ report-ruled list ordered corners missing a ordered′ corners′ missing′ h =
     let v = verdict-left (points list) (a .number) (a .verdict) (record { x = a .x; y = a .y }) (h .verdict) n in
     let m = left (λ k. MissingResult (points list) missing k (a .missing) missing′) (λ k r. r) (a .number) (h .listed) n in
     (u .0, u .1, m .0, v .0, v .1, u .2, u .3, m .1))
+
+figures-refused : (s : List Point) (a : Figured) → FiguresOf s a → (numberOf a ≡ 0 → ⊥) → a ≡ Refused (numberOf a) (placeOf a)
+figures-refused s (Refused number place) h n = refl
+figures-refused s None h n = absurd (n refl)
+figures-refused s (Given centroid solidity) h n = absurd (n refl)
+
+pub figures-ruled : (list ordered corners : List ℤ) (a : Figured) (ordered′ corners′ : List ℤ) → FiguresPromise list ordered corners a ordered′ corners′
+    → Ruled (hullRows list ordered corners accepted) (numberOf a) (placeOf a)
+    ((a ≡ Refused (numberOf a) (placeOf a)) × (ordered′ ≡ ordered) × (corners′ ≡ corners))
+figures-ruled list ordered corners a ordered′ corners′ h =
+    ruled (tt, (tt, (tt, (tt, (tt, (tt, tt)))))) (h .gives)
+    (λ n.
+      let u = hull-left list ordered corners (numberOf a) (h .points-count) (h .corners-count) ordered′ corners′ (h .hull) n in
+      (figures-refused (points list) a (h .figures) n, u .2, u .3))
 
 pub rebuild-ruled : (corners missing room : List ℤ) (a : Rebuilt) (after : List ℤ) → RebuildPromise corners missing room a after
     → Ruled (rebuildTable corners missing room) (a .number) (a .place) ((a .points ≡ 0) × (after ≡ room))
