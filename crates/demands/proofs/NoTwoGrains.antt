@@ -6,23 +6,24 @@
 use mathlib.Core.Path.{_≡_, refl, sym, _∙_, ap, subst}
 use mathlib.Core.Logic.{inl, inr, _↔_}
 use mathlib.Core.List.{List}
-use Prim.Native.Nat.{ℕ, _*_, _≤_, _<_}
+use Prim.Native.Nat.{ℕ, _*_, _≤_}
 use native.Mathlib.Omega.{arith}
 use lib.ListN.{length, take}
 use lib.IntN.{ℤ}
 use Rattle.lattice.specs.Point.{Point, InRange, most, points, In, All, Pairs, Before, Lists}
 use Rattle.lattice.specs.Hull.{Of, CornerList, MissingList, Kept}
-use Rattle.lattice.specs.Refusal.{accepted, Whole, Odd}
+use Rattle.lattice.specs.Refusal.{accepted, Odd, listRows}
 use Rattle.lattice.specs.Room.{numbers}
 use Rattle.lattice.proofs.Lists.{either, all-in, in-all}
 use Rattle.lattice.proofs.Places.{lt-or-le}
 use Rattle.lattice.proofs.Frame.{hull-in-range}
 use Rattle.lattice.proofs.Numbers.{points-numbers, numbers-tell, numbers-even, even-numbers}
 use Rattle.lattice.proofs.SameMembers.{Same}
-use Rattle.lattice.proofs.RowLists.{row-order-exists}
+use Rattle.lattice.proofs.RowLists.{row-order-exists, row-order-length}
 use Rattle.lattice.proofs.CornerLists.{corner-list-exists}
 use Rattle.lattice.proofs.MissingLists.{missing-list-exists, kept-list-exists}
 use Rattle.lattice.proofs.Refusals.{within-range}
+use Rattle.lattice.proofs.Tables.{Passes, list-passes}
 use Rattle.lattice.proofs.Demand.{report-tells}
 use Rattle.order.specs.Row.{Sound}
 use Rattle.report.specs.declared.Reported.{Reported}
@@ -31,7 +32,7 @@ use Rattle.rebuild.specs.declared.Rebuilt.{Rebuilt}
 use Rattle.rebuild.specs.Rebuild.{rebuildTable, RebuildPromise}
 use Rattle.rebuild.proofs.WayBack as WayBack
 use Rattle.demands.specs.Demands.{NoneApplies, Begins, FullReport, pointsIn, cornersIn, missingIn, RoomFor}
-use Rattle.demands.proofs.Passing.{counted-once}
+use Rattle.demands.proofs.Passing.{all-pass}
 use Rattle.demands.proofs.Rooms.{begins}
 use Rattle.demands.proofs.Published.{report-published, rebuild-published, report-of-sound}
 use Rattle.demands.proofs.Refused.{report-ruled, rebuild-ruled}
@@ -92,20 +93,19 @@ module _ {list : List ℤ} (a : FullReport list) where
   none =
       report-ruled list (a .ordered) (a .corners) (a .missing) (a .answer) (a .ordered′) (a .corners′) (a .missing′) (a .promise) .exactly .0 (a .full)
 
-  not-more : ((j : ℕ) → Whole (most < length (points list)) j → ⊥) → length (points list) ≤ most
-  not-more f = either (lt-or-le most (length (points list))) (λ l. absurd (f 0 (refl, l))) (λ l. l)
+  passes : Passes list
+  passes = list-passes list accepted 0 (all-pass (listRows list accepted) (none .0, (none .1 .0, (none .1 .1 .0, (none .1 .1 .1 .0, tt)))))
 
   reported : (u : Read a) → WayBack.Reported (points list) (u .o) (cornersIn a) (missingIn a)
-  reported u =
-      record {
-        range = within-range (points list) (none .1 .1 .0);
-        order = u .order;
-        few = omega (arith, counted-once (points list) (u .o) (none .1 .1 .1 .0) (u .order), not-more (none .1 .0));
-        corners-even = numbers-even (u .c) (u .corners-front);
-        missing-even = numbers-even (u .m) (u .missing-front);
-        corner = subst (CornerList (points list)) (sym (points-numbers (u .c)) ∙ ap points (sym (u .corners-front))) (u .corner);
-        missed = subst (MissingList (points list)) (sym (points-numbers (u .m)) ∙ ap points (sym (u .missing-front))) (u .missed);
-      }
+  reported u = record {
+    range = passes .range;
+    order = u .order;
+    few = omega (arith, row-order-length (points list) (u .o) (passes .once) (u .order), passes .few);
+    corners-even = numbers-even (u .c) (u .corners-front);
+    missing-even = numbers-even (u .m) (u .missing-front);
+    corner = subst (CornerList (points list)) (sym (points-numbers (u .c)) ∙ ap points (sym (u .corners-front))) (u .corner);
+    missed = subst (MissingList (points list)) (sym (points-numbers (u .m)) ∙ ap points (sym (u .missing-front))) (u .missed);
+  }
 
 pub report-comes-back : (list : List ℤ) (a : FullReport list) (room : List ℤ) → RoomFor (a .answer .points) room
     → (b : Rebuilt) (after : List ℤ) → RebuildPromise (cornersIn a) (missingIn a) room b after

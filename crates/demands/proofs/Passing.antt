@@ -1,5 +1,5 @@
 -- A table gives number 0 exactly if none of its rows applies, and then place 0; so with lists that rows 1 to 4 let pass. Assumes nothing.
-use mathlib.Core.Path.{_≡_, refl, sym, ap, subst}
+use mathlib.Core.Path.{_≡_, refl, ap, subst}
 use mathlib.Core.Logic.{inl, inr}
 use mathlib.Core.List.{List}
 use Prim.Native.Nat.{ℕ}
@@ -7,12 +7,11 @@ use native.Mathlib.Omega.{arith}
 use lib.Dec.{T, ltb, ltb→lt}
 use lib.ListN.{length}
 use lib.IntN.{ℤ}
-use Rattle.lattice.specs.Point.{Point, InRange, points, point, All, Pairs, Before, Lists}
-use Rattle.lattice.specs.Hull.{Of, CornerList, MissingList}
+use Rattle.lattice.specs.Point.{Point, InRange, points, point, All, Pairs, Before}
+use Rattle.lattice.specs.Hull.{CornerList, MissingList}
 use Rattle.lattice.specs.Refusal.{Table, accepted, _when_else_, Gives, AtPoint, OutOfRange, Repeats, listRows}
-use Rattle.lattice.proofs.Places.{all-place, pairs-place, place-pairs}
+use Rattle.lattice.proofs.Places.{all-place, pairs-place}
 use Rattle.lattice.proofs.RowOrder.{before-asymmetric}
-use Rattle.lattice.proofs.RowLists.{row-order-length}
 use Rattle.lattice.proofs.CornerLists.{corner-list-unique}
 use Rattle.lattice.proofs.MissingLists.{missing-list-unique}
 use Rattle.lattice.proofs.Tables.{Numbered, whole-never}
@@ -42,10 +41,6 @@ none-repeats l h i (k, (j, g, e)) =
     let b = pairs-place Before l h j i g k in
     let c = subst (λ p. Before (point l j) p) e b in
     before-asymmetric (point l j) (point l j) c c
-
--- points without a repeat are as many as they are in row order
-pub counted-once : (l o : List Point) → ((i : ℕ) → Repeats l i → ⊥) → Lists (Of l) o → length o ≡ length l
-counted-once l o f h = row-order-length l o (place-pairs (λ a b. a ≡ b → ⊥) l (λ i j g k e. f j (k, (i, g, sym e)))) h
 
 -- ---- lists
 pub sound-passes : (list : List ℤ) → Sound list → NoneApplies (listRows list accepted)

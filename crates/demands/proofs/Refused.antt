@@ -101,8 +101,8 @@ pub figures-ruled : (list ordered corners : List ℤ) (a : Figured) (ordered′ 
 figures-ruled list ordered corners a ordered′ corners′ h =
     ruled (tt, (tt, (tt, (tt, (tt, (tt, tt)))))) (h .gives)
     (λ n.
-      let u = hull-left list ordered corners (numberOf a) (h .points-count) (h .corners-count) ordered′ corners′ (h .hull) n in
-      (figures-refused (points list) a (h .figures) n, u .2, u .3))
+    let u = hull-left list ordered corners (numberOf a) (h .points-count) (h .corners-count) ordered′ corners′ (h .hull) n in
+    (figures-refused (points list) a (h .figures) n, u .2, u .3))
 
 pub rebuild-ruled : (corners missing room : List ℤ) (a : Rebuilt) (after : List ℤ) → RebuildPromise corners missing room a after
     → Ruled (rebuildTable corners missing room) (a .number) (a .place) ((a .points ≡ 0) × (after ≡ room))
