@@ -1,10 +1,9 @@
 -- A table gives number 0 exactly if none of its rows applies, and then place 0; so with lists that rows 1 to 4 let pass. Assumes nothing.
-use mathlib.Core.Path.{_≡_, refl, ap, subst}
+use mathlib.Core.Path.{refl, ap, subst}
 use mathlib.Core.Logic.{inl, inr}
 use mathlib.Core.List.{List}
 use Prim.Native.Nat.{ℕ}
 use native.Mathlib.Omega.{arith}
-use lib.Dec.{T, ltb, ltb→lt}
 use lib.ListN.{length}
 use lib.IntN.{ℤ}
 use Rattle.lattice.specs.Point.{Point, InRange, points, point, All, Pairs, Before}
@@ -14,18 +13,15 @@ use Rattle.lattice.proofs.Places.{all-place, pairs-place}
 use Rattle.lattice.proofs.RowOrder.{before-asymmetric}
 use Rattle.lattice.proofs.CornerLists.{corner-list-unique}
 use Rattle.lattice.proofs.MissingLists.{missing-list-unique}
-use Rattle.lattice.proofs.Tables.{Numbered, whole-never}
+use Rattle.lattice.proofs.Tables.{Numbered, unnumbered, whole-never}
 use Rattle.order.specs.Row.{Sound}
 use Rattle.report.specs.Report.{reportRows}
 use Rattle.demands.specs.Demands.{NoneApplies, RoomFor}
 
 -- ---- tables
-none-is-numbered : (k : ℕ) → T (ltb 0 k) → 0 ≡ k → ⊥
-none-is-numbered k u e = omega (arith, ltb→lt 0 k u)
-
 pub none-applies : (t : Table) → Numbered t → (i : ℕ) → Gives t 0 i → NoneApplies t
 none-applies accepted n i h = tt
-none-applies (k when P else t) n i (inl h) = absurd (none-is-numbered k (n .0) (h .0))
+none-applies (k when P else t) n i (inl h) = absurd (unnumbered k (h .0) (n .0))
 none-applies (k when P else t) n i (inr h) = (h .0, none-applies t (n .1) i (h .1))
 
 pub all-pass : (t : Table) → NoneApplies t → Gives t 0 0

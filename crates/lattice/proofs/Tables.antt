@@ -9,10 +9,9 @@ use lib.Dec.{T, ltb, ltb→lt}
 use lib.ListN.{length}
 use lib.IntN.{ℤ}
 use Rattle.lattice.proofs.Lists.{either}
-use Rattle.lattice.proofs.Places.{lt-or-le, nowhere, place-all, place-pairs}
-use Rattle.lattice.proofs.Decide.{yes-or-no}
-use Rattle.lattice.proofs.Refusals.{range?}
-use Rattle.lattice.specs.Point.{InRange, most, points, point, All, Pairs}
+use Rattle.lattice.proofs.Places.{lt-or-le, nowhere, place-pairs}
+use Rattle.lattice.proofs.Refusals.{within-range}
+use Rattle.lattice.specs.Point.{InRange, most, points, All, Pairs}
 use Rattle.lattice.specs.Refusal.{First, Table, accepted, _when_else_, Gives, Whole, Odd, listRows}
 
 -- the rows of t, then those of `later`
@@ -26,7 +25,7 @@ abbrev pub Numbered : Table → Type 0
 Numbered accepted = Unit {0}
 Numbered (k when P else t) = T (ltb 0 k) × Numbered t
 
-unnumbered : (k : ℕ) → 0 ≡ k → T (ltb 0 k) → ⊥
+pub unnumbered : (k : ℕ) → 0 ≡ k → T (ltb 0 k) → ⊥
 unnumbered k e u = omega (arith, ltb→lt 0 k u)
 
 -- what the first rows give stands
@@ -73,7 +72,7 @@ list-passes a later i (inr (odd, inr (more, inr (outside, inl h)))) = absurd (om
 list-passes a later i (inr (odd, inr (more, inr (outside, inr (repeats, h))))) = record {
   even = λ o. odd 0 (refl, o);
   few = either (lt-or-le most (length (points a))) (λ l. absurd (more 0 (refl, l))) (λ l. l);
-  range = place-all InRange (points a) (λ j l. either (yes-or-no (range? (point (points a) j))) (λ r. r) (λ n. absurd (outside j (l, n))));
+  range = within-range (points a) outside;
   once = place-pairs (λ p q. p ≡ q → ⊥) (points a) (λ j k l m e. repeats k (m, (j, l, sym e)));
 }
 
