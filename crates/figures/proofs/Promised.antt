@@ -1,5 +1,6 @@
--- What follows from what Figures promises: any two outcomes coincide; none is answered exactly for the empty list; solidity is 1.0 exactly if
--- the points are convex; each double is one division of exact whole numbers, and finite. Assumes nothing.
+-- What follows from what Figures promises: any two outcomes coincide; none is answered exactly for the empty list, and doubles for every other
+-- that is accepted; solidity is 1.0 exactly if the points are convex; each double is one division of exact whole numbers, and finite.
+-- Assumes nothing.
 use mathlib.Core.Path.{_≡_, refl, sym, _∙_, ap, subst}
 use mathlib.Core.Logic.{_↔_, inl, inr}
 use mathlib.Core.List.{List, [], _∷_}
@@ -10,9 +11,10 @@ use lib.ListN.{length, drop-of-length-le}
 use lib.IntN.{ℤ, pos, natAbs}
 use lib.Ieee.{Float}
 use lib.Ieee.Scale.{finite}
-use Rattle.lattice.specs.Point.{Point, points}
+use Rattle.lattice.specs.Point.{Point, points, In}
 use Rattle.lattice.specs.Hull.{Convex, CornerList}
 use Rattle.lattice.specs.Refusal.{accepted, Gives}
+use Rattle.lattice.specs.Room.{holding}
 use Rattle.lattice.proofs.Numbers.{points-length}
 use Rattle.lattice.proofs.Tables.{Passes}
 use Rattle.hull.specs.declared.Hulled.{Hulled}
@@ -60,9 +62,12 @@ module _ (list ordered corners : List ℤ) where
       (answers-equal (points list) a b (ap (λ x. x .number) (r .0)) (ap (λ x. x .place) (r .0)) (h .figures) (g .figures), r .1, r .2)
 
 -- ---- none, exactly for the empty list
-no-corners : (c : List Point) → CornerList [] c → length c ≡ 0
-no-corners [] h = refl
-no-corners (p ∷ c) h = absurd (h .only p (inl refl) .held)
+no-members : (l : List Point) → ((p : Point) → In p l → ⊥) → l ≡ []
+no-members [] f = refl
+no-members (p ∷ l) f = absurd (f p (inl refl))
+
+no-corners : (s c : List Point) → s ≡ [] → CornerList s c → c ≡ []
+no-corners s c e h = no-members c (λ p m. subst (In p) e (h .only p m .held))
 
 empty-accepted : (ordered corners : List ℤ) (n i : ℕ) → Gives (hullRows [] ordered corners accepted) n i → n ≡ 0
 empty-accepted ordered corners n i (inl h) = absurd (omega (arith, h .1 .here .1))
@@ -71,7 +76,7 @@ empty-accepted ordered corners n i (inr (_, inr (_, inl h))) = absurd (omega (ar
 empty-accepted ordered corners n i (inr (_, inr (_, inr (_, inl h)))) = absurd (omega (arith, h .1 .here .0))
 empty-accepted ordered corners n i (inr (_, inr (_, inr (_, inr (_, inl h))))) = absurd (omega (arith, h .1 .here .1))
 empty-accepted ordered corners n i (inr (_, inr (_, inr (_, inr (_, inr (_, inl h)))))) =
-    let w = h .1 .here .1 in absurd (omega (arith, w .small, no-corners (w .corners) (w .listed)))
+    let w = h .1 .here .1 in absurd (omega (arith, w .small, ap length (no-corners [] (w .corners) refl (w .listed))))
 empty-accepted ordered corners n i (inr (_, inr (_, inr (_, inr (_, inr (_, inr (_, h))))))) = h .0
 
 empty-none : (ordered corners : List ℤ) (a : Figured) (ordered′ corners′ : List ℤ) → FiguresPromise [] ordered corners a ordered′ corners′ → a ≡ None
@@ -91,7 +96,21 @@ none-exactly list ordered corners a ordered′ corners′ h = (
   (λ e. empty-none ordered corners a ordered′ corners′ (subst (λ l. FiguresPromise l ordered corners a ordered′ corners′) e h)),
 )
 
--- ---- the doubles
+-- and then both rooms read as before
+pub none-leaves-rooms : (list ordered corners ordered′ corners′ : List ℤ) → FiguresPromise list ordered corners None ordered′ corners′
+    → (ordered′ ≡ ordered) × (corners′ ≡ corners)
+none-leaves-rooms list ordered corners ordered′ corners′ h =
+    let o = no-members (h .hull .in-order) (λ p m. subst (In p) (h .figures) (h .hull .order .only p m)) in
+    let c = no-corners (points list) (h .hull .corner-list) (h .figures) (h .hull .corner) in
+    (h .hull .ordered-room ∙ ap (λ l. holding l ordered) o, h .hull .corner-room ∙ ap (λ l. holding l corners) c)
+
+-- ---- the doubles, for every other list that is accepted
+pub accepted-given : (list ordered corners : List ℤ) (a : Figured) (ordered′ corners′ : List ℤ) → FiguresPromise list ordered corners a ordered′ corners′
+    → numberOf a ≡ 0 → (list ≡ [] → ⊥) → (centroid : Centroid) × (solidity : Float) × (a ≡ Given centroid solidity)
+accepted-given list ordered corners (Refused number place) ordered′ corners′ h e some = absurd (h .figures e)
+accepted-given list ordered corners None ordered′ corners′ h e some = absurd (some (none-empty list ordered corners ordered′ corners′ h))
+accepted-given list ordered corners (Given centroid solidity) ordered′ corners′ h e some = (centroid, solidity, refl)
+
 some-points : (s : List Point) → (s ≡ [] → ⊥) → 0 < length s
 some-points [] e = absurd (e refl)
 some-points (p ∷ s) e = omega arith

@@ -32,10 +32,10 @@ solidity-unique s d e h g =
 
 -- ---- the lattice points of the hull of some points in range: not none, and so few that their number is exact as a double
 module _ (s : List Point) (some : 0 < length s) (range : All InRange s) (l : List Point) (h : Lists (InHull (Of s)) l) where
-  pub lattice-some : 0 < length l
+  lattice-some : 0 < length l
   lattice-some = omega (arith, in-place l (point s 0) (h .every (point s 0) (member (place-in s 0 some))) .1)
 
-  pub lattice-exact : length l ≤ exact
+  lattice-exact : length l ≤ exact
   lattice-exact = omega (arith, lists-small (InHull (Of s)) (hull-in-range (Of s) (all-in InRange s range)) l h)
 
 -- ---- 1.0 exactly if convex

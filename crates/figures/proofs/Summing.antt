@@ -39,7 +39,7 @@ coordinate-within zero p r =
 coordinate-within (suc k) p r =
     record { low = r .y-from; high = linear≤ (p .y ∷ []) (gap≤ (r .y-to)) (search quote depth 20) tt }
 
-pub sum-within : (k : ℕ) (s : List Point) → All InRange s → Within (offset * length s) (sum (coordinate k) s)
+sum-within : (k : ℕ) (s : List Point) → All InRange s → Within (offset * length s) (sum (coordinate k) s)
 sum-within k [] r = record { low = record { le = tt }; high = record { le = tt } }
 sum-within k (p ∷ s) r =
     let n : offset + offset * length s ≡ offset * suc (length s) = omega arith in

@@ -32,6 +32,7 @@ pub record Solidity (s : List Point) (d : Float) : Type 0 where
   pub listed : Lists (InHull (Of s)) lattice
   pub quotient : d ≡ rounded (pos (length s)) (length lattice)
 
+-- ---- what the code asks before it sums and divides
 -- some points in range, not too many: their sums fit
 pub record Summable (list : List ℤ) : Type 0 where
   pub some : 0 < length (points list)

@@ -53,6 +53,7 @@ fn mean(list: &[i32], coordinate: usize) -> f64
     quotient(sum(list, coordinate), n as u64)
 }
 
+// Both means.
 fn centroid_of(list: &[i32]) -> Centroid
     requires { ⌜ Summable (now list) ⌝ }
     ensures { λ r. ⌜ r ≡ centroidOf (points (now (list .entry))) ⌝ }
@@ -63,7 +64,7 @@ fn centroid_of(list: &[i32]) -> Centroid
     }
 }
 
-// The points of a list, of all lattice points in the hull of its corners.
+// How many of the lattice points in the hull are points of the list.
 fn solidity_of(list: &[i32], corners: &[u32]) -> f64
     requires { ⌜ Summable (now list) × Outlines (points (now list)) (now corners) ⌝ }
     ensures { λ r. ⌜ Solidity (points (now (list .entry))) r ⌝ }
