@@ -63,13 +63,6 @@ module _ (P : ℕ → Type 0) (s r : Stretch) (h : Keeps P s r) where
     all = λ x w q. h .all x w (g x w q);
   }
 
-  pub keeps-both : (Q : ℕ → Type 0) (t : Stretch) → Keeps Q r t → Keeps (λ x. P x × Q x) s t
-  keeps-both Q t k = record {
-    few = k .few;
-    kept = λ x w. let u = k .kept x w in let v = h .kept x (u .0) in (v .0, (v .1, u .1));
-    all = λ x w q. k .all x (h .all x w (q .0)) (q .1);
-  }
-
 pub keeps-all : (P : ℕ → Type 0) (s : Stretch) → s .to ≤ side → ((x : ℕ) → Within s x → P x) → Keeps P s s
 keeps-all P s l f = record { few = l; kept = λ x w. (w, f x w); all = λ x w p. w }
 
