@@ -1,6 +1,6 @@
 -- The points of an accepted picture are its black pixels, few, in range and strictly in row order, so that the calls over points accept
 -- them. Assumes nothing.
-use mathlib.Core.Path.{_≡_, refl, sym, _∙_, ap, subst₃}
+use mathlib.Core.Path.{_≡_, refl, sym, _∙_, ap, subst}
 use mathlib.Core.Bool.{Bool, true, false, cond}
 use mathlib.Core.List.{List, [], _∷_}
 use Prim.Native.Nat.{ℕ, zero, suc, _*_, _≤_, _<_}
@@ -8,11 +8,9 @@ use native.Mathlib.Omega.{arith}
 use borrow.Author.Tests.{ltb-false}
 use lib.Dec.{eqb, ltb}
 use lib.ListN.{length, take, drop}
-use lib.Seq.{take-at}
 use lib.IntN.{ℤ}
 use Rattle.lattice.specs.Point.{Point, InRange, most, points, All, Pairs, Before, Lists}
-use Rattle.lattice.specs.Room.{numbers}
-use Rattle.lattice.proofs.Numbers.{numbers-length, points-numbers}
+use Rattle.lattice.proofs.Rooms.{holding-points}
 use Rattle.bitmap.specs.declared.Header.{Header}
 use Rattle.bitmap.specs.declared.Header.the-variants.{Sound, Bad}
 use Rattle.bitmap.specs.declared.Picture.{Picture}
@@ -126,30 +124,32 @@ module _ (bytes : List ℕ) (list : List ℤ) (answer : Picture) (after : List �
   abbrev pub front : List Point
   front = points (take (2 * answer .points) after)
 
-  drawn : (r : Reading) → readingOf bytes ≡ r → Fair bytes r → Drawn bytes (answer .width) (answer .height) front × (length front ≡ answer .points)
-  drawn (picture width height l) e f =
-      (subst₃ (Drawn bytes) (sym (told (λ a. a .width))) (sym (told (λ a. a .height))) (sym same) f, ap length same ∙ sym (told (λ a. a .points)))
+  read-as : (r : Reading) → readingOf bytes ≡ r → Fair bytes r → readingOf bytes ≡ picture (answer .width) (answer .height) front
+  read-as (picture width height l) e f =
+      e ∙ (λ i. picture (sym (told (λ a. a .width)) i) (sym (told (λ a. a .height)) i) (sym same i))
     where
       told : (part : Picture → ℕ) → part answer ≡ part (answerOf (picture width height l))
       told part = ap part (h .answers ∙ ap answerOf e)
 
       same : front ≡ l
       same =
-          ap (λ n. points (take (2 * n) after)) (told (λ a. a .points))
-          ∙ ap (λ a. points (take (2 * length l) a)) (h .stands ∙ ap (λ r. listAfter r list) e)
-          ∙ ap points (take-at (numbers l) (drop (2 * length l) list) (2 * length l) (numbers-length l))
-          ∙ points-numbers l
-  drawn (refused number place) e f = absurd (never (sym (ap (λ a. a .number) (h .answers ∙ ap answerOf e))))
+          ap (λ a. points (take (2 * answer .points) a)) (h .stands ∙ ap (λ r. listAfter r list) e)
+          ∙ holding-points l list (answer .points) (told (λ a. a .points))
+  read-as (refused number place) e f = absurd (never (sym (ap (λ a. a .number) (h .answers ∙ ap answerOf e))))
     where
       never : number ≡ answer .number → ⊥
       never g = omega (arith, g, accepted, f)
 
+  -- they are what is read
+  pub picture-read : readingOf bytes ≡ picture (answer .width) (answer .height) front
+  picture-read = read-as (readingOf bytes) refl (reading-fair bytes)
+
   -- the points are the black pixels, each once, in row order
   pub picture-points-drawn : Drawn bytes (answer .width) (answer .height) front
-  picture-points-drawn = drawn (readingOf bytes) refl (reading-fair bytes) .0
+  picture-points-drawn = subst (Fair bytes) picture-read (reading-fair bytes)
 
   pub picture-points-counted : length front ≡ answer .points
-  picture-points-counted = drawn (readingOf bytes) refl (reading-fair bytes) .1
+  picture-points-counted = sym (ap (λ a. a .points) (h .answers ∙ ap answerOf picture-read))
 
   pub picture-points-few : length front ≤ most
   picture-points-few = picture-points-drawn .few
@@ -159,3 +159,13 @@ module _ (bytes : List ℕ) (list : List ℤ) (answer : Picture) (after : List �
 
   pub picture-points-in-row-order : Pairs Before front
   picture-points-in-row-order = picture-points-drawn .lists .order
+
+-- a declined picture is read as the refusal that is answered
+pub picture-refused : (bytes : List ℕ) (list : List ℤ) (answer : Picture) (after : List ℤ) → PicturePromise bytes list answer after
+    → (answer .number ≡ 0 → ⊥) → readingOf bytes ≡ refused (answer .number) (answer .place)
+picture-refused bytes list answer after h declined = by-reading (readingOf bytes) refl
+  where
+    by-reading : (r : Reading) → readingOf bytes ≡ r → readingOf bytes ≡ refused (answer .number) (answer .place)
+    by-reading (picture width height l) e = absurd (declined (ap (λ a. a .number) (h .answers ∙ ap answerOf e)))
+    by-reading (refused number place) e =
+        let told = sym (h .answers ∙ ap answerOf e) in e ∙ (λ i. refused (told i .number) (told i .place))

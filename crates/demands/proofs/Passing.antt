@@ -1,19 +1,17 @@
 -- A table gives number 0 exactly if none of its rows applies, and then place 0; so with lists that rows 1 to 4 let pass. Assumes nothing.
-use mathlib.Core.Path.{refl, ap, subst}
+use mathlib.Core.Path.{refl, ap}
 use mathlib.Core.Logic.{inl, inr}
 use mathlib.Core.List.{List}
 use Prim.Native.Nat.{ℕ}
 use native.Mathlib.Omega.{arith}
 use lib.ListN.{length}
 use lib.IntN.{ℤ}
-use Rattle.lattice.specs.Point.{Point, InRange, points, point, All, Pairs, Before}
+use Rattle.lattice.specs.Point.{Point, points}
 use Rattle.lattice.specs.Hull.{CornerList, MissingList}
-use Rattle.lattice.specs.Refusal.{Table, accepted, _when_else_, Gives, AtPoint, OutOfRange, Repeats, listRows}
-use Rattle.lattice.proofs.Places.{all-place, pairs-place}
-use Rattle.lattice.proofs.RowOrder.{before-asymmetric}
+use Rattle.lattice.specs.Refusal.{Table, accepted, _when_else_, Gives, listRows}
 use Rattle.lattice.proofs.CornerLists.{corner-list-unique}
 use Rattle.lattice.proofs.MissingLists.{missing-list-unique}
-use Rattle.lattice.proofs.Tables.{Numbered, unnumbered, whole-never}
+use Rattle.lattice.proofs.Tables.{Numbered, unnumbered, whole-never, none-out-of-range, none-repeats}
 use Rattle.order.specs.Row.{Sound}
 use Rattle.report.specs.Report.{reportRows}
 use Rattle.demands.specs.Demands.{NoneApplies, RoomFor}
@@ -27,16 +25,6 @@ none-applies (k when P else t) n i (inr h) = (h .0, none-applies t (n .1) i (h .
 pub all-pass : (t : Table) → NoneApplies t → Gives t 0 0
 all-pass accepted h = (refl, refl)
 all-pass (k when P else t) h = inr (h .0, all-pass t (h .1))
-
--- ---- rows
-pub none-out-of-range : (l : List Point) → All InRange l → (j : ℕ) → AtPoint OutOfRange l j → ⊥
-none-out-of-range l h j (k, n) = n (all-place InRange l h j k)
-
-pub none-repeats : (l : List Point) → Pairs Before l → (i : ℕ) → Repeats l i → ⊥
-none-repeats l h i (k, (j, g, e)) =
-    let b = pairs-place Before l h j i g k in
-    let c = subst (λ p. Before (point l j) p) e b in
-    before-asymmetric (point l j) (point l j) c c
 
 -- ---- lists
 pub sound-passes : (list : List ℤ) → Sound list → NoneApplies (listRows list accepted)

@@ -3,12 +3,16 @@
 use mathlib.Core.Path.{_≡_, subst}
 use mathlib.Core.Logic.{_↔_}
 use mathlib.Core.List.{List}
-use Rattle.lattice.specs.Point.{Point}
+use Prim.Native.Nat.{_≤_}
+use native.Mathlib.Omega.{arith}
+use lib.ListN.{length}
+use Rattle.lattice.specs.Point.{Point, Lists}
 use Rattle.lattice.specs.Hull.{InHull, Of, Rest, Corner, CornerList}
 use Rattle.lattice.proofs.HullLaws.{hull-larger}
 use Rattle.lattice.proofs.Shape.{Shape, ShapeTest, shape-test}
 use Rattle.lattice.proofs.Sandwich.{Spans, spans-itself, hull-of-spanned, corner-list-of-spanned}
 use Rattle.lattice.proofs.SameMembers.{Same, shape-unique}
+use Rattle.lattice.proofs.RowLists.{lists-fewer, row-order-exists, row-order-length}
 use Rattle.lattice.proofs.ScanAll.{spans-exist}
 
 -- every list of points has a corner list
@@ -35,6 +39,16 @@ corner-list-spans s c = (
 -- the corners have the hull of all points
 pub hull-of-corners : (s c : List Point) → CornerList s c → (p : Point) → InHull (Of s) p ↔ InHull (Of c) p
 hull-of-corners s c h = hull-of-spanned s c (corner-list-spans s c .0 h)
+
+-- there are no more corners than points
+pub corners-fewer : (s o c : List Point) → Lists (Of s) o → CornerList s c → length c ≤ length o
+corners-fewer s o c h g =
+    let k = row-order-exists c in
+    omega (
+      arith,
+      row-order-length c (k .0) (g .once) (k .1),
+      lists-fewer (Of c) (Of s) (λ p i. g .only p i .held) (k .0) o (k .1) h,
+    )
 
 -- ---- only the points held matter
 pub corner-same : (s t : List Point) → Same s t → (p : Point) → Corner s p → Corner t p

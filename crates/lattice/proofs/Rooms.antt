@@ -1,4 +1,4 @@
--- A room that begins with some points, and one point more written behind them. Assumes nothing.
+-- A room that begins with some points: these points, and one point more written behind them. Assumes nothing.
 use mathlib.Core.Path.{_≡_, sym, _∙_, ap}
 use mathlib.Core.List.{List, [], _∷_, _++_, append-assoc}
 use Prim.Native.Nat.{ℕ, suc, _+_, _*_, _≤_, _<_}
@@ -6,13 +6,18 @@ use native.Mathlib.Omega.{arith}
 use lib.ListN.{length, getD, take, drop, set, length-append, length-drop}
 use lib.Seq.{drop-cons, drop-drop, set-at, take-at, drop-at}
 use lib.IntN.{ℤ, pos}
-use Rattle.lattice.specs.Point.{Point}
+use Rattle.lattice.specs.Point.{Point, points}
 use Rattle.lattice.specs.Room.{numbers, holding}
-use Rattle.lattice.proofs.Numbers.{numbers-length, numbers-append}
+use Rattle.lattice.proofs.Numbers.{numbers-length, numbers-append, points-numbers}
 
 pub holding-length : (l : List Point) (room : List ℤ) → 2 * length l ≤ length room → length (holding l room) ≡ length room
 holding-length l room h =
     length-append (numbers l) (drop (2 * length l) room) ∙ omega (arith, numbers-length l, length-drop (2 * length l) room)
+
+-- the part at the front that holds the points
+pub holding-points : (l : List Point) (room : List ℤ) (n : ℕ) → n ≡ length l → points (take (2 * n) (holding l room)) ≡ l
+holding-points l room n e =
+    ap points (take-at (numbers l) (drop (2 * length l) room) (2 * n) (omega (arith, numbers-length l, e))) ∙ points-numbers l
 
 -- what stood at the next two places
 module _ (room : List ℤ) (n : ℕ) (h : n + 1 < length room) where

@@ -1,6 +1,6 @@
 -- One table of refusals behind another: a call that looks at more rows after those of a call that it contains; and what a list is like
 -- that no row refuses. Assumes nothing.
-use mathlib.Core.Path.{_≡_, refl, sym}
+use mathlib.Core.Path.{_≡_, refl, sym, subst}
 use mathlib.Core.Logic.{inl, inr}
 use mathlib.Core.List.{List}
 use Prim.Native.Nat.{ℕ, suc, _≤_}
@@ -9,10 +9,11 @@ use lib.Dec.{T, ltb, ltb→lt}
 use lib.ListN.{length}
 use lib.IntN.{ℤ}
 use Rattle.lattice.proofs.Lists.{either}
-use Rattle.lattice.proofs.Places.{lt-or-le, nowhere, place-pairs}
+use Rattle.lattice.proofs.Places.{lt-or-le, nowhere, all-place, pairs-place, place-pairs}
+use Rattle.lattice.proofs.RowOrder.{before-irreflexive}
 use Rattle.lattice.proofs.Refusals.{within-range}
-use Rattle.lattice.specs.Point.{InRange, most, points, All, Pairs}
-use Rattle.lattice.specs.Refusal.{First, Table, accepted, _when_else_, Gives, Whole, Odd, listRows}
+use Rattle.lattice.specs.Point.{Point, InRange, most, points, point, All, Pairs, Before}
+use Rattle.lattice.specs.Refusal.{First, Table, accepted, _when_else_, Gives, Whole, AtPoint, Repeats, Odd, OutOfRange, listRows}
 
 -- the rows of t, then those of `later`
 infixr 6 _then_
@@ -79,3 +80,11 @@ list-passes a later i (inr (odd, inr (more, inr (outside, inr (repeats, h))))) =
 -- a list that passes has no more than 4,096 points
 pub list-few : (a : List ℤ) (i : ℕ) → Gives (listRows a accepted) 0 i → length (points a) ≤ most
 list-few a i g = list-passes a accepted i g .few
+
+-- ---- rows 3 and 4 that do not apply
+pub none-out-of-range : (l : List Point) → All InRange l → (j : ℕ) → AtPoint OutOfRange l j → ⊥
+none-out-of-range l h j (k, n) = n (all-place InRange l h j k)
+
+pub none-repeats : (l : List Point) → Pairs Before l → (i : ℕ) → Repeats l i → ⊥
+none-repeats l h i (k, (j, g, e)) =
+    before-irreflexive (point l j) (subst (Before (point l j)) e (pairs-place Before l h j i g k))

@@ -17,8 +17,7 @@ use Rattle.lattice.proofs.Frame.{hull-in-range}
 use Rattle.lattice.proofs.Tables.{whole-never}
 use Rattle.lattice.proofs.Refusals.{gives-unique}
 use Rattle.lattice.proofs.SameMembers.{lists-unique}
-use Rattle.lattice.proofs.RowLists.{row-order-exists, row-order-length, lists-fewer}
-use Rattle.lattice.proofs.CornerLists.{corner-list-of-some, hull-of-corners}
+use Rattle.lattice.proofs.CornerLists.{corner-list-of-some, corners-fewer, hull-of-corners}
 use Rattle.lattice.proofs.Demand.{lists-kept, rebuild-accepts, rebuild-owes}
 use Rattle.rebuild.specs.declared.Rebuilt.{Rebuilt}
 use Rattle.rebuild.specs.Rebuild.{resultRows, RebuildResult, pointRows, rebuildTable, RebuildPromise}
@@ -45,14 +44,7 @@ module _ (s o : List Point) (corners missing room : List ℤ) (r : Reported s o 
   corner-in p i = r .corner .only p i .held
 
   few-corners : length c ≤ most
-  few-corners =
-      let k = row-order-exists c in
-      omega (
-        arith,
-        r .few,
-        row-order-length c (k .0) (r .corner .once) (k .1),
-        lists-fewer (Of c) (Of s) corner-in (k .0) o (k .1) (r .order),
-      )
+  few-corners = omega (arith, r .few, corners-fewer s o c (r .order) (r .corner))
 
   corner-range : (j : ℕ) → j < length c → InRange (point c j)
   corner-range j l = all-in InRange s (r .range) (point c j) (corner-in (point c j) (place-in c j l))

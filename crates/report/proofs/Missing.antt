@@ -3,17 +3,16 @@ use mathlib.Core.Path.{_≡_, refl, sym, _∙_, ap, subst}
 use mathlib.Core.List.{List, [], _∷_, map}
 use Prim.Native.Nat.{ℕ, _+_, _-_, _*_, _≤_, _<_}
 use native.Mathlib.Omega.{arith}
-use lib.ListN.{length, take, drop, length-map}
-use lib.Seq.{length-take-le, take-at}
+use lib.ListN.{length, take, length-map}
+use lib.Seq.{length-take-le}
 use lib.IntN.{ℤ}
 use Rattle.lattice.specs.Point.{Point, origin, points, In, Pairs, Before, Lists}
 use Rattle.lattice.specs.Hull.{InHull, member, Of, MissingList}
-use Rattle.lattice.specs.Room.{numbers, holding}
+use Rattle.lattice.specs.Room.{holding}
 use Rattle.lattice.proofs.Lists.{in-all}
 use Rattle.lattice.proofs.CornerLists.{corner-list-of-some, hull-of-corners}
 use Rattle.lattice.proofs.MissingLists.{missing-list-exists, first-missing, missing-count}
-use Rattle.lattice.proofs.Numbers.{numbers-length, points-numbers}
-use Rattle.lattice.proofs.Rooms.{holding-length}
+use Rattle.lattice.proofs.Rooms.{holding-length, holding-points}
 use Rattle.lattice.proofs.SameMembers.{lists-same}
 use Rattle.packed.specs.Packed.{cells, packed, unpacked}
 use Rattle.packed.proofs.RowOrder.{packed-below, unpacked-packed, unpacked-before}
@@ -61,9 +60,7 @@ module _ (keys stack : List ℕ) (h : Grain keys stack) where
 
     front-points : points front ≡ grain
     front-points =
-        ap (λ l. points (take (2 * length keys) l)) stand
-        ∙ ap points (take-at (numbers grain) (drop (2 * length grain) room) (2 * length keys) (omega (arith, numbers-length grain, length-map keys unpacked)))
-        ∙ points-numbers grain
+        ap (λ l. points (take (2 * length keys) l)) stand ∙ holding-points grain room (length keys) (sym (length-map keys unpacked))
 
     pub front-long : 2 * length keys ≤ length room → 2 * length keys ≡ length front
     front-long wide =

@@ -6,6 +6,7 @@ mod figuring;
 mod hulling;
 mod ordering;
 mod parts;
+mod picturing;
 mod reading;
 mod rebuilding;
 mod reporting;
@@ -43,6 +44,7 @@ fn answered(
         6 => rows::row(input, output, list, source, sink),
         7 => rebuilding::rebuild(input, output, ordered, corners, missing, source, sink),
         8 => figuring::figures(input, output, list, ordered, corners, source, sink),
+        9 => picturing::picture(input, output, source, sink),
         _ => state::bad(source, sink),
     }
 }

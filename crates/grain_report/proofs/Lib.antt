@@ -1,0 +1,2 @@
+-- How a buffer is filled from its front.
+pub mod Filling
