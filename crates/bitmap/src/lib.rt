@@ -18,6 +18,7 @@ pub const GREATEST_SIZE: usize = 1024;
 pub const ROOM: usize = 8192;
 
 // What `read` answers: number and place, 0 and 0 if accepted; how many black pixels; width and height.
+#[repr(C)]
 pub struct Picture {
     pub number: u32,
     pub place: usize,

@@ -11,6 +11,7 @@ ghost use Rattle.hull.specs.Hull.{HullPromise};
 ghost use Rattle.hull.specs.Found.{HullSpace, FindsHull, Shown};
 
 // What Hull answers: number and place, 0 and 0 if accepted, and how many points and corners there are.
+#[repr(C)]
 pub struct Hulled {
     pub number: u32,
     pub place: usize,

@@ -16,6 +16,7 @@ use stretch::Crossing;
 use stretch::Stretch;
 
 // What Rebuild answers: number and place, 0 and 0 if accepted, and how many points there are.
+#[repr(C)]
 pub struct Rebuilt {
     pub number: u32,
     pub place: usize,

@@ -14,6 +14,7 @@ ghost use Rattle.report.specs.Grain.{Grain, MissingOf, JudgedBy, Reporte
 
 // What Verdict answers: number and place, 0 and 0 if accepted, how many points and corners there are, the verdict, and the first missing
 // point, (0, 0) where there is none.
+#[repr(C)]
 pub struct Judged {
     pub number: u32,
     pub place: usize,
@@ -25,6 +26,7 @@ pub struct Judged {
 }
 
 // What Report answers: the same, and how many missing points there are.
+#[repr(C)]
 pub struct Reported {
     pub number: u32,
     pub place: usize,

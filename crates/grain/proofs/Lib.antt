@@ -1,0 +1,2 @@
+-- The struct of Figures.
+pub mod Block

@@ -1,0 +1,2 @@
+-- What the face promises beyond what its calls promise.
+pub mod Block
