@@ -1,4 +1,4 @@
-/* What the three versions have in common: the calls and answers of include/grain.h under other names, and limits that it does not name. No code. */
+/* What the versions have in common, and no code: the calls of include/grain.h under other names, and limits that it does not name. */
 #ifndef CALLS_H
 #define CALLS_H
 

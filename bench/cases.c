@@ -6,7 +6,7 @@
 
 enum { WIDEST_RANDOM = 512, MOST_STEPS = 2500, GREATEST_STEP = 40 };
 
-static int32_t list[2 * GRAIN_MOST_POINTS + 2], missing_list[MISSING_ROOM], room[ORDERED_ROOM];
+static int32_t list[GRAIN_LIST_LENGTH + 2], missing_list[MISSING_ROOM];
 static uint8_t bytes[GRAIN_PICTURE_LENGTH];
 static size_t points;
 
@@ -86,15 +86,6 @@ static void make_random(struct task *task)
     lend(task);
 }
 
-/* The points with 3x² - 2xy + 4y² or x² + y² up to a limit. */
-static void add_ellipse(int32_t limit)
-{
-    for (int32_t y = -10; y <= 10; y++)
-        for (int32_t x = -10; x <= 10; x++)
-            if (3 * x * x - 2 * x * y + 4 * y * y <= limit)
-                add(x, y);
-}
-
 static void add_disc(int32_t centre, int32_t radius)
 {
     for (int32_t y = -radius; y <= radius; y++)
@@ -118,10 +109,14 @@ static void make_chipped(struct task *task)
     lend(task);
 }
 
+/* Of the 63 points of an ellipse that lies aslant, 60. */
 static void make_small(struct task *task)
 {
     start();
-    add_ellipse(64);
+    for (int32_t y = -10; y <= 10; y++)
+        for (int32_t x = -10; x <= 10; x++)
+            if (3 * x * x - 2 * x * y + 4 * y * y <= 64)
+                add(x, y);
     shuffle();
     points = 60;
     lend(task);
@@ -177,7 +172,7 @@ static int by_angle(const void *a, const void *b)
     return half_s != half_t ? half_s - half_t : (turn < 0) - (turn > 0);
 }
 
-/* A polygon of many corners: the shortest step of each direction that has one with x² + y² up to a limit, one after the other by angle. */
+/* A polygon of many corners: the shortest steps in all directions that have one with x² + y² up to a limit, by angle. */
 static void add_polygon(int32_t limit, int32_t x, int32_t y)
 {
     static struct step steps[MOST_STEPS];
@@ -229,14 +224,14 @@ static void make_too_many(struct task *task)
 static void make_outside(struct task *task)
 {
     make_random(task);
-    list[2 * GRAIN_MOST_POINTS - 1] = GREATEST + 1;
+    list[GRAIN_LIST_LENGTH - 1] = GREATEST + 1;
 }
 
 static void make_repeated(struct task *task)
 {
     make_random(task);
-    list[2 * GRAIN_MOST_POINTS - 2] = list[0];
-    list[2 * GRAIN_MOST_POINTS - 1] = list[1];
+    list[GRAIN_LIST_LENGTH - 2] = list[0];
+    list[GRAIN_LIST_LENGTH - 1] = list[1];
 }
 
 /* One pair fewer than the result has; the odd number behind it is never used. */
@@ -245,29 +240,31 @@ static size_t too_small(size_t pairs)
     return 2 * pairs - 1;
 }
 
-static struct grain_reported report_of(const struct task *task, int32_t *corners)
+static int32_t corner_list[CORNERS_ROOM];
+
+/* The report of a grain; its corners and missing points are kept. */
+static struct grain_reported report_of(const struct task *task)
 {
-    return plain_report(task->list, task->length, room, ORDERED_ROOM, corners, CORNERS_ROOM, missing_list, MISSING_ROOM);
+    static int32_t room[ORDERED_ROOM];
+    return plain_report(task->list, task->length, room, ORDERED_ROOM, corner_list, CORNERS_ROOM, missing_list, MISSING_ROOM);
 }
 
 static void make_small_ordered(struct task *task)
 {
     make_random(task);
-    task->ordered_length = too_small(GRAIN_MOST_POINTS);
+    task->ordered_length = too_small(points);
 }
 
 static void make_small_corners(struct task *task)
 {
-    static int32_t corners[CORNERS_ROOM];
     make_random(task);
-    task->corners_length = too_small(report_of(task, corners).corners);
+    task->corners_length = too_small(report_of(task).corners);
 }
 
 static void make_small_missing(struct task *task)
 {
-    static int32_t corners[CORNERS_ROOM];
     make_random(task);
-    task->missing_length = too_small(report_of(task, corners).missing);
+    task->missing_length = too_small(report_of(task).missing);
 }
 
 /* Corners and missing points for Rebuild */
@@ -275,13 +272,11 @@ static void make_small_missing(struct task *task)
 /* The grain's report takes the place of the grain. */
 static void report_instead(struct task *task)
 {
-    static int32_t corners[CORNERS_ROOM];
-    struct grain_reported report = report_of(task, corners);
-    task->list = corners;
+    struct grain_reported report = report_of(task);
+    task->list = corner_list;
     task->length = 2 * report.corners;
     task->missing_list = missing_list;
     task->missing_list_length = 2 * report.missing;
-    task->corners_length = task->missing_length = 0;
 }
 
 static void make_report_of_chipped(struct task *task)
@@ -293,9 +288,7 @@ static void make_report_of_chipped(struct task *task)
 static void make_no_corner_list(struct task *task)
 {
     make_report_of_chipped(task);
-    memcpy(list, task->list, task->length * sizeof list[0]);
-    task->list = list;
-    swap_points(list, task->length / 2 - 2, task->length / 2 - 1);
+    swap_points(corner_list, task->length / 2 - 2, task->length / 2 - 1);
 }
 
 static void make_not_in_row_order(struct task *task)
@@ -319,10 +312,8 @@ static void make_too_many_result(struct task *task)
 
 static void make_small_points(struct task *task)
 {
-    make_chipped(task);
-    size_t count = points;
-    report_instead(task);
-    task->ordered_length = too_small(count);
+    make_report_of_chipped(task);
+    task->ordered_length = too_small(points);
 }
 
 /* Pictures */
@@ -343,6 +334,7 @@ static bool is_black(int32_t x, int32_t y)
 static void make_netpbm(struct task *task)
 {
     task->bytes = bytes;
+    task->ordered_length = ORDERED_ROOM;
     write_text(task, "P1\n200 200\n");
     for (int32_t y = 0; y < 200; y++)
         for (int32_t x = 0; x < 200; x++) {
@@ -352,10 +344,11 @@ static void make_netpbm(struct task *task)
         }
 }
 
-/* As ImageMagick writes it: a blank after every digit, a row on one line, a comment. At two bytes a pixel no picture of 200 x 200 has room. */
+/* As ImageMagick writes it: a comment, a blank after every digit, a row on one line. At two bytes a pixel 200 x 200 would be refused. */
 static void make_imagemagick(struct task *task)
 {
     task->bytes = bytes;
+    task->ordered_length = ORDERED_ROOM;
     write_text(task, "P1\n#disc\n180 180\n");
     for (int32_t y = 0; y < 180; y++) {
         for (int32_t x = 0; x < 180; x++)
@@ -366,10 +359,10 @@ static void make_imagemagick(struct task *task)
 
 /* Rows */
 
-#define FIRST_FOUR(subject, make) \
-    {subject, ORDER, make}, {subject, HULL, make}, {subject, VERDICT, make}, {subject, FIGURES, make}
+#define FOUR_CALLS(subject, make) \
+    {subject, ORDER, make, 0}, {subject, HULL, make, 0}, {subject, VERDICT, make, 0}, {subject, FIGURES, make, 0}
 
-#define ALL_CALLS(subject, make) FIRST_FOUR(subject, make), {subject, REPORT, make}, {subject, REBUILD, make}
+#define ALL_CALLS(subject, make) FOUR_CALLS(subject, make), {subject, REPORT, make, 0}, {subject, REBUILD, make, 0}
 
 static const struct row rows[] = {
     ALL_CALLS("random 4,096 in 512 x 512", make_random),
@@ -380,22 +373,22 @@ static const struct row rows[] = {
     ALL_CALLS("60 pixels", make_small),
     ALL_CALLS("one pixel", make_one),
     ALL_CALLS("240 corners only", make_polygon),
-    FIRST_FOUR("2,240 corners only", make_great_polygon),
-    {"declined 1, odd", REPORT, make_odd},
-    {"declined 2, 4,097 points", REPORT, make_too_many},
-    {"declined 3, last point", REPORT, make_outside},
-    {"declined 4, first and last", REPORT, make_repeated},
-    {"declined 5", REPORT, make_small_ordered},
-    {"declined 6", REPORT, make_small_corners},
-    {"declined 7", REPORT, make_small_missing},
-    {"declined 7, 2,240 corners", REPORT, make_great_polygon},
-    {"declined 8, last corners", REBUILD, make_no_corner_list},
-    {"declined 9, last point", REBUILD, make_not_in_row_order},
-    {"declined 10, last point", REBUILD, make_misplaced},
-    {"declined 11, 240 corners", REBUILD, make_too_many_result},
-    {"declined 12", REBUILD, make_small_points},
-    {"Netpbm's 200 x 200", READ, make_netpbm},
-    {"ImageMagick's 180 x 180", READ, make_imagemagick},
+    FOUR_CALLS("2,240 corners only", make_great_polygon),
+    {"declined 1, odd", REPORT, make_odd, 1},
+    {"declined 2, 4,097 points", REPORT, make_too_many, 2},
+    {"declined 3, last point", REPORT, make_outside, 3},
+    {"declined 4, first and last", REPORT, make_repeated, 4},
+    {"declined 5, random", REPORT, make_small_ordered, 5},
+    {"declined 6, random", REPORT, make_small_corners, 6},
+    {"declined 7, random", REPORT, make_small_missing, 7},
+    {"declined 7, 2,240 corners", REPORT, make_great_polygon, 7},
+    {"declined 8, last corners", REBUILD, make_no_corner_list, 8},
+    {"declined 9, last point", REBUILD, make_not_in_row_order, 9},
+    {"declined 10, last point", REBUILD, make_misplaced, 10},
+    {"declined 11, 240 corners", REBUILD, make_too_many_result, 11},
+    {"declined 12, disc", REBUILD, make_small_points, 12},
+    {"Netpbm's 200 x 200", READ, make_netpbm, 0},
+    {"ImageMagick's 180 x 180", READ, make_imagemagick, 0},
 };
 
 size_t number_of_rows(void)

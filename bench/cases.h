@@ -16,13 +16,14 @@ struct task {
     size_t ordered_length, corners_length, missing_length;
 };
 
-/* The greatest lengths that rooms have in a task. For Rebuild the ordered list is the room for its points. */
-enum { ORDERED_ROOM = 2 * GRAIN_MOST_POINTS + 2, CORNERS_ROOM = 2 * GRAIN_MOST_POINTS + 2, MISSING_ROOM = 600000 };
+/* The greatest lengths that rooms have in a task. The ordered list is also the room for the points of Rebuild and of a picture. */
+enum { ORDERED_ROOM = GRAIN_LIST_LENGTH, CORNERS_ROOM = GRAIN_LIST_LENGTH, MISSING_ROOM = 600000 };
 
 struct row {
     const char *subject;
     enum call call;
     void (*make)(struct task *task);
+    uint32_t number;                /* that the call must give: 0, or the refusal that the row is for */
 };
 
 size_t number_of_rows(void);

@@ -1,7 +1,7 @@
-/* A plugin for qemu's user emulator that counts the instructions its guest executes, and prints the count when the guest ends. The count is the
-   same on every machine. It is taken instruction by instruction: a count by blocks of code is quicker, but in qemu 7 a block that is cut short
-   because its last instruction reaches into the next page still claims that instruction, so that the count would hang on where code lies.
-   What it takes from qemu is declared here by hand, version 1 of the interface, so that no header has to be installed. */
+/* A plugin for qemu's user emulator that counts the instructions its guest executes, and prints the count when the guest ends. The count is
+   the same on every machine. It is taken instruction by instruction: by blocks of code it would be quicker, but a block that is cut short
+   because its last instruction reaches into the next page still claims that instruction in qemu 7, and the count would hang on where the
+   code lies. What it takes from qemu is declared here by hand, version 1 of the interface, so that no header has to be installed. */
 #include <inttypes.h>
 #include <stddef.h>
 #include <stdio.h>

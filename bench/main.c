@@ -12,7 +12,8 @@
 #include <time.h>
 
 #define VERSION_OF(version) \
-    {#version, version##_order, version##_hull, version##_verdict, version##_report, version##_figures, version##_rebuild, version##_read_picture}
+    {#version, version##_order, version##_hull, version##_verdict, version##_report, version##_figures, version##_rebuild, \
+        version##_read_picture}
 
 #define library_order grain_order
 #define library_hull grain_hull
@@ -43,7 +44,8 @@ void repeat(const struct version *version, enum call call, const struct task *ta
         return;
     case REPORT:
         while (times-- > 0)
-            version->report(t.list, t.length, rooms->ordered, t.ordered_length, rooms->corners, t.corners_length, rooms->missing, t.missing_length);
+            version->report(t.list, t.length, rooms->ordered, t.ordered_length, rooms->corners, t.corners_length, rooms->missing,
+                t.missing_length);
         return;
     case FIGURES:
         while (times-- > 0)

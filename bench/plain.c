@@ -1,6 +1,6 @@
 /* The plain version: the calls as a C programmer writes them at first. The C library's qsort puts the points in row order, Andrew's scan
-   passes all of them, each row's stretch of the hull comes from the two edges that cross it, by a division each, and a walk goes through the
-   stretches column by column. Points are sorted as 64-bit words, row above column above place: one comparison orders two of them. */
+   passes all of them, each row's stretch of the hull comes from the two edges that cross it, by a division each, and a walk goes through
+   the stretches column by column. Points are sorted as 64-bit words, row above column above place: one comparison orders two of them. */
 #include "calls.h"
 #include <stdbool.h>
 #include <stdlib.h>
@@ -471,8 +471,8 @@ static struct grain_rebuilt not_rebuilt(struct refusal refusal)
     return (struct grain_rebuilt){.number = refusal.number, .place = refusal.place};
 }
 
-struct grain_rebuilt plain_rebuild(const int32_t *corners, size_t corners_length, const int32_t *missing, size_t missing_length, int32_t *room,
-    size_t room_length)
+struct grain_rebuilt plain_rebuild(const int32_t *corners, size_t corners_length, const int32_t *missing, size_t missing_length,
+    int32_t *room, size_t room_length)
 {
     struct refusal refusal = check_lists(corners, corners_length, missing, missing_length);
     if (refusal.number != 0)

@@ -1,6 +1,6 @@
-/* The tuned version reads a picture eight bytes at a time, where these are eight pixels or four pixels each with a blank behind it: the two ways
-   in which people write them. Whatever else comes is read byte by byte. Points are gathered in an array of its own, and copied once the picture
-   is known to be sound: a declined one leaves the list as it was. */
+/* The tuned version reads a picture eight bytes at a time, where these are eight pixels, or four with a blank behind each: so people write
+   them. Whatever else comes is read byte by byte. Points are gathered in an array of its own, and copied once the picture is known to be
+   sound: a declined one leaves the list as it was. */
 #include "calls.h"
 #include <stdbool.h>
 #include <string.h>
@@ -78,75 +78,90 @@ static struct header read_header(const uint8_t *bytes, size_t length)
 
 /* Pixels */
 
-/* What has been read: the black pixels so far, the next byte, and the column and row of the next pixel. */
+/* What has been read: the place of the next byte, the column of the next pixel, and how many black pixels there are. */
 struct reading {
-    size_t black, at, x, y;
-    int32_t points[2 * (GRAIN_MOST_POINTS + AT_ONCE)];
+    size_t at, x, black;
 };
 
-static inline void put(struct reading *reading, size_t x)
-{
-    reading->points[2 * reading->black] = (int32_t)x;
-    reading->points[2 * reading->black + 1] = (int32_t)reading->y;
-}
-
-/* Pixels whose last bits stand `apart` bits apart. Each is put down, and stays if it is black. */
-static inline void take(struct reading *reading, uint64_t bits, size_t pixels, size_t apart)
+/* Pixels whose bits stand `apart` bits apart. Each is put down, and stays if it is black. */
+static inline struct reading take(struct reading reading, uint64_t bits, size_t pixels, size_t apart, size_t y, int32_t *points)
 {
     if (bits != 0)
         for (size_t i = 0; i < pixels; i++) {
-            put(reading, reading->x + i);
-            reading->black += bits >> (apart * i) & 1;
+            points[2 * reading.black] = (int32_t)(reading.x + i);
+            points[2 * reading.black + 1] = (int32_t)y;
+            reading.black += bits >> (apart * i) & 1;
         }
-    reading->x += pixels;
-    reading->at += AT_ONCE;
+    reading.x += pixels;
+    return reading;
 }
 
-/* As many pixels of the row as come eight bytes at a time. */
-static void read_quickly(const uint8_t *bytes, size_t length, size_t width, struct reading *reading)
+/* How many of eight bytes are pixels, up to the first that is none, where `wrong` has a bit. */
+static inline size_t pixels_before(uint64_t wrong)
 {
-    while (reading->at + AT_ONCE <= length && reading->x + AT_ONCE <= width && reading->black <= GRAIN_MOST_POINTS) {
+    return wrong == 0 ? AT_ONCE : (size_t)__builtin_ctzll(wrong) / 8;
+}
+
+/* As many pixels of row y as can be taken from eight bytes at a time. */
+static inline struct reading read_quickly(const uint8_t *bytes, size_t length, size_t width, size_t y, struct reading reading,
+    int32_t *points)
+{
+    while (reading.at + AT_ONCE <= length && reading.black <= GRAIN_MOST_POINTS) {
         uint64_t word;
-        memcpy(&word, bytes + reading->at, sizeof word);
-        if ((word & 0xfefefefefefefefe) == 0x3030303030303030)
-            take(reading, word & 0x0101010101010101, 8, 8);
-        else if ((word & 0xfffefffefffefffe) == 0x2030203020302030)
-            take(reading, word & 0x0001000100010001, 4, 16);
-        else
-            return;
-    }
-}
-
-/* One pixel; 0, or the number of the fault at the place reached. */
-static uint32_t read_one(const uint8_t *bytes, size_t length, struct reading *reading)
-{
-    reading->at = skip_white(bytes, length, reading->at);
-    if (reading->at == length)
-        return GRAIN_PICTURE_ENDS_EARLY;
-    uint8_t pixel = bytes[reading->at] - '0';
-    if (pixel > 1)
-        return GRAIN_PICTURE_BAD_BYTE;
-    if (reading->black <= GRAIN_MOST_POINTS)
-        put(reading, reading->x);
-    reading->black += pixel;
-    reading->x++;
-    reading->at++;
-    return 0;
-}
-
-static uint32_t read_pixels(const uint8_t *bytes, size_t length, size_t width, size_t height, struct reading *reading)
-{
-    for (reading->y = 0; reading->y < height; reading->y++)
-        for (reading->x = 0; reading->x < width;) {
-            read_quickly(bytes, length, width, reading);
-            if (reading->x == width)
+        memcpy(&word, bytes + reading.at, sizeof word);
+        uint64_t bits = word & 0x0101010101010101, wrong = (word & 0xfefefefefefefefe) ^ 0x3030303030303030;
+        size_t left = width - reading.x;
+        if (wrong == 0 && left >= 8) {
+            reading = take(reading, bits, 8, 8, y, points);
+            reading.at += 8;
+        } else if ((word & 0xfffefffefffefffe) == 0x2030203020302030 && left >= 4) {
+            reading = take(reading, bits, 4, 16, y, points);
+            reading.at += 8;
+        } else {
+            size_t pixels = pixels_before(wrong);
+            pixels = pixels < left ? pixels : left;
+            if (pixels == 0)
                 break;
-            uint32_t fault = read_one(bytes, length, reading);
-            if (fault != 0)
-                return fault;
+            reading = take(reading, bits, pixels, 8, y, points);
+            reading.at += pixels;
         }
-    reading->at = skip_white(bytes, length, reading->at);
-    return reading->at < length ? GRAIN_PICTURE_LEFT_OVER : 0;
+    }
+    return reading;
+}
+
+/* One pixel of row y. */
+static inline struct reading read_one(uint8_t bit, size_t y, struct reading reading, int32_t *points)
+{
+    if (reading.black <= GRAIN_MOST_POINTS) {
+        reading = take(reading, bit, 1, 0, y, points);
+    } else {
+        reading.black += bit;
+        reading.x++;
+    }
+    reading.at++;
+    return reading;
+}
+
+/* The pixels, from a place on: 0, or the number of the fault at the place reached. */
+static uint32_t read_pixels(const uint8_t *bytes, size_t length, const size_t sizes[2], struct reading *result, int32_t *points)
+{
+    struct reading reading = *result;
+    for (size_t y = 0; y < sizes[1]; y++)
+        for (reading.x = 0; reading.x < sizes[0];) {
+            size_t at = result->at = reading.at = skip_white(bytes, length, reading.at);
+            reading = read_quickly(bytes, length, sizes[0], y, reading, points);
+            if (reading.at > at)
+                continue;
+            if (at == length)
+                return GRAIN_PICTURE_ENDS_EARLY;
+            uint8_t bit = bytes[at] - '0';
+            if (bit > 1)
+                return GRAIN_PICTURE_BAD_BYTE;
+            reading = read_one(bit, y, reading, points);
+        }
+    reading.at = skip_white(bytes, length, reading.at);
+    *result = reading;
+    return reading.at < length ? GRAIN_PICTURE_LEFT_OVER : 0;
 }
 
 static struct grain_picture refused(uint32_t number, size_t place)
@@ -163,14 +178,13 @@ struct grain_picture tuned_read_picture(const uint8_t *bytes, size_t length, int
     struct header header = read_header(bytes, length);
     if (!header.sound)
         return refused(GRAIN_PICTURE_HEADER, header.at);
-    struct reading reading;
-    reading.black = 0;
-    reading.at = header.at;
-    uint32_t fault = read_pixels(bytes, length, header.sizes[0], header.sizes[1], &reading);
+    int32_t points[2 * (GRAIN_MOST_POINTS + AT_ONCE)];
+    struct reading reading = {.at = header.at};
+    uint32_t fault = read_pixels(bytes, length, header.sizes, &reading, points);
     if (fault != 0)
         return refused(fault, reading.at);
     if (reading.black > GRAIN_MOST_POINTS)
         return refused(GRAIN_TOO_MANY, 0);
-    memcpy(list, reading.points, 2 * reading.black * sizeof reading.points[0]);
+    memcpy(list, points, 2 * reading.black * sizeof points[0]);
     return (struct grain_picture){.points = reading.black, .width = header.sizes[0], .height = header.sizes[1]};
 }
