@@ -211,17 +211,29 @@ static bool agree_on_report(void)
     return agree("small report", REBUILD, &task);
 }
 
+/* A few digits at a time with white space behind them, as people write pictures; seldom a byte that does not belong there. */
+static size_t make_pixels(uint8_t *bytes, size_t length)
+{
+    static const char white[] = " \n\r\t", strange[] = "#7P2";
+    size_t end = length + below(200), digits = below(3) == 0 ? 1 : 1 + below(30);
+    for (size_t i = 1; length < end; i++) {
+        bytes[length++] = (uint8_t)('0' + below(2));
+        if (i % digits == 0)
+            bytes[length++] = (uint8_t)white[below(4) * below(2)];
+        if (below(300) == 0)
+            bytes[length++] = (uint8_t)strange[below(4)];
+    }
+    return length;
+}
+
 static bool agree_on_picture(void)
 {
-    static const char letters[] = "00001111 \n\r\t#7P";
-    static uint8_t bytes[220];
-    size_t length = (size_t)sprintf((char *)bytes, below(5) == 0 ? "P1#c\r%u #\n%u " : "P1\n%u %u\n", below(20), below(12));
-    size_t end = length + below(200);
-    while (length < end)
-        bytes[length++] = (uint8_t)letters[below(below(40) == 0 ? 15 : 8 + below(2))];
-    struct task task = {.bytes = bytes, .bytes_length = length, .ordered_length = ORDERED_ROOM};
+    static const char *const headers[] = {"P1\n%u %u\n", "P1#c\r%u #\n%u ", "P1 %u#\n0%u#\n", "P1\n\n%u\t%u\r\n"};
+    static uint8_t bytes[260];
+    size_t length = (size_t)sprintf((char *)bytes, headers[below(4)], below(20), below(12));
+    struct task task = {.bytes = bytes, .bytes_length = make_pixels(bytes, length), .ordered_length = ORDERED_ROOM};
     if (below(10) == 0)
-        task.bytes_length = below((uint32_t)length + 1);
+        task.bytes_length = below((uint32_t)task.bytes_length + 1);
     return agree("small picture", READ, &task);
 }
 
