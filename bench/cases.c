@@ -4,7 +4,7 @@
 #include <stdlib.h>
 #include <string.h>
 
-enum { WIDEST_RANDOM = 512, MOST_STEPS = 2500, GREATEST_STEP = 40 };
+enum { RANDOM_SIDE = 512, MOST_STEPS = 2500, GREATEST_STEP = 40 };
 
 static int32_t list[GRAIN_LIST_LENGTH + 2], missing_list[MISSING_ROOM];
 static uint8_t bytes[GRAIN_PICTURE_LENGTH];
@@ -73,11 +73,11 @@ static void lend(struct task *task)
 
 static void make_random(struct task *task)
 {
-    static bool taken[WIDEST_RANDOM][WIDEST_RANDOM];
+    static bool taken[RANDOM_SIDE][RANDOM_SIDE];
     memset(taken, 0, sizeof taken);
     start();
     while (points < GRAIN_MOST_POINTS) {
-        uint32_t x = below(WIDEST_RANDOM), y = below(WIDEST_RANDOM);
+        uint32_t x = below(RANDOM_SIDE), y = below(RANDOM_SIDE);
         if (taken[y][x])
             continue;
         taken[y][x] = true;
