@@ -1,118 +1,146 @@
--- How many columns a division leaves, and which columns an edge leaves of a row, in natural numbers. Assumes nothing.
-use mathlib.Core.Path.{_≡_, sym, _∙_, ap, subst}
+-- Where an edge crosses a row, in natural numbers: a division leaves the columns on one side of it. Assumes nothing.
+use mathlib.Core.Path.{_≡_, sym, _∙_, subst, subst₂}
+use mathlib.Core.Logic.{_↔_}
 use mathlib.Core.List.{[], _∷_}
 use Prim.Native.Nat.{ℕ, _+_, _*_, _-_, _/_, _%_, _≤_, _<_}
-use native.Mathlib.Nat.{mul-comm, add-mul, mul-le-mul-right, le-div-iff-mul-le}
+use native.Mathlib.Nat.{add-mul, mul-le-mul-right, le-div-iff-mul-le}
 use native.Mathlib.Omega.{arith}
 use lib.Dec.{leb→le, le→leb}
 use lib.IntN.{pos}
+use lib.Signed.{_≤ℤ_}
 use Rattle.whole.proofs.Whole.{quote, _≤ᶻ_, gap≤, linear≤}
 use Rattle.lattice.specs.Point.{Before}
+use Rattle.lattice.specs.Hull.{turn}
 use Rattle.lattice.proofs.Lists.{either}
 use Rattle.lattice.proofs.Places.{lt-or-le}
 use Rattle.packed.specs.Packed.{side, cells, placed, unpacked}
 use Rattle.packed.proofs.RowOrder.{before-unpacked, unpacked-before}
-use Rattle.stretch.specs.Stretch.{cell, Within, Columns, Keeps, LeftOf}
-use Rattle.stretch.specs.declared.Stretch.{Stretch}
+use Rattle.stretch.specs.Stretch.{cell, LeftOf, Slope, EndsAt, BeginsAt}
 
--- ---- the columns that a bound leaves
-pub columns-some : (bound steep : ℕ) → 0 < steep → bound / steep < side → Columns bound steep (bound / steep + 1)
-columns-some bound steep s h = record {
-  few = omega arith;
-  below = λ x l. le-div-iff-mul-le s .0 (omega arith);
-  all = λ x l m. let d : x ≤ bound / steep = le-div-iff-mul-le s .1 m in omega arith;
-}
+-- ---- columns on one side of a division
+at-most : (x bound steep : ℕ) → 0 < steep → x * steep ≤ bound ↔ x < bound / steep + 1
+at-most x bound steep s = (
+  (λ h. let d : x ≤ bound / steep = le-div-iff-mul-le s .1 h in omega arith),
+  (λ h. le-div-iff-mul-le s .0 (omega arith)),
+)
 
-pub columns-all : (bound steep : ℕ) → 0 < steep → side ≤ bound / steep → Columns bound steep side
-columns-all bound steep s h = record {
-  few = omega arith;
-  below = λ x l. le-div-iff-mul-le s .0 (omega arith);
-  all = λ x l m. l;
-}
+at-least : (x bound steep top : ℕ) → 0 < steep → top + 1 ≡ bound + steep → bound ≤ x * steep ↔ top / steep ≤ x
+at-least x bound steep top s e = (
+  (λ h. either (lt-or-le x (top / steep)) (λ l. absurd (omega (arith, h, more l))) (λ l. l)),
+  (λ h. either (lt-or-le (x * steep) bound) (λ l. absurd (omega (arith, h, fewer l))) (λ l. l)),
+)
+  where
+    next : (x + 1) * steep ≡ x * steep + steep
+    next = add-mul x 1 steep ∙ omega arith
 
--- ---- an edge in natural numbers: the column and the row of both its ends
-abbrev pub low : ℕ → ℕ → ℕ → ℕ
-low a b y = b % side * (a / side) + a % side * y
+    more : x < top / steep → x * steep + steep ≤ top
+    more l =
+        let k : x + 1 ≤ top / steep = omega arith in
+        let g : (x + 1) * steep ≤ top = le-div-iff-mul-le s .0 k in
+        omega (arith, g, next)
 
-abbrev pub high : ℕ → ℕ → ℕ → ℕ
-high a b y = b / side * (a % side) + b % side * y
+    fewer : x * steep < bound → x + 1 ≤ top / steep
+    fewer l =
+        let g : (x + 1) * steep ≤ top = omega (arith, l, e, next) in
+        le-div-iff-mul-le s .1 g
 
-pub product-small : (m n : ℕ) → m < side → n < side → m * n < cells
-product-small m n h g =
-    let l : m ≤ 16383 = omega arith in
-    omega (arith, mul-le-mul-right n l)
+-- ---- an edge in natural numbers: the columns of both its ends, each taken as often as there are rows from row y to the other end
+abbrev weighed : ℕ → ℕ → ℕ → ℕ → ℕ
+weighed a b passed rest = a % side * rest + b % side * passed
 
-module _ (a b y x : ℕ) where
-  pub left-natural : LeftOf a b y x → b / side * x + low a b y ≤ a / side * x + high a b y
-  left-natural h =
-      let g : pos (b / side * x + low a b y) ≤ᶻ pos (a / side * x + high a b y) =
-      linear≤ (pos (a % side) ∷ pos (a / side) ∷ pos (b % side) ∷ pos (b / side) ∷ pos x ∷ pos y ∷ []) (gap≤ h) (search quote depth 20) tt in
-      leb→le (b / side * x + low a b y) (a / side * x + high a b y) (g .le)
+module _ (a b y x passed rest : ℕ) (e : y ≡ a / side + passed) (f : b / side ≡ a / side + passed + rest) where
+  abbrev Up : ℕ → ℕ → Type 0
+  Up row top = pos 0 ≤ℤ turn (unpacked a) (record { x = placed (b % side); y = placed top }) (cell x row)
 
-  pub natural-left : b / side * x + low a b y ≤ a / side * x + high a b y → LeftOf a b y x
-  natural-left h =
-      let g : pos (b / side * x + low a b y) ≤ᶻ pos (a / side * x + high a b y) = record { le = le→leb (b / side * x + low a b y) (a / side * x + high a b y) h } in
-      linear≤ (pos (a % side) ∷ pos (a / side) ∷ pos (b % side) ∷ pos (b / side) ∷ pos x ∷ pos y ∷ []) (gap≤ g) (search quote depth 20) tt
+  abbrev Down : ℕ → ℕ → Type 0
+  Down row top = pos 0 ≤ℤ turn (record { x = placed (b % side); y = placed top }) (unpacked a) (cell x row)
 
--- ---- a stretch kept by one test, kept by another that says the same
-module _ (P : ℕ → Type 0) (s r : Stretch) (h : Keeps P s r) where
-  pub keeps-as : (Q : ℕ → Type 0) → ((x : ℕ) → Within s x → P x → Q x) → ((x : ℕ) → Within s x → Q x → P x) → Keeps Q s r
-  keeps-as Q f g = record {
-    few = h .few;
-    kept = λ x w. let k = h .kept x w in (k .0, f x (k .0) (k .1));
-    all = λ x w q. h .all x w (g x w q);
+  abbrev bound : ℕ
+  bound = weighed a b passed rest
+
+  left-of-rising : LeftOf a b y x ↔ x * (passed + rest) ≤ bound
+  left-of-rising = (
+    (λ h. let g : pos (x * (passed + rest)) ≤ᶻ pos bound =
+        linear≤ (pos (a % side) ∷ pos (a / side) ∷ pos (b % side) ∷ pos x ∷ pos passed ∷ pos rest ∷ []) (gap≤ (subst₂ Up e f h)) (search quote depth 20 fits 5000) tt in
+        leb→le (x * (passed + rest)) bound (g .le)),
+    (λ h. let g : pos (x * (passed + rest)) ≤ᶻ pos bound = record { le = le→leb (x * (passed + rest)) bound h } in
+        subst₂ Up (sym e) (sym f)
+        (linear≤ (pos (a % side) ∷ pos (a / side) ∷ pos (b % side) ∷ pos x ∷ pos passed ∷ pos rest ∷ []) (gap≤ g) (search quote depth 20 fits 5000) tt)),
+  )
+
+  left-of-falling : LeftOf b a y x ↔ bound ≤ x * (passed + rest)
+  left-of-falling = (
+    (λ h. let g : pos bound ≤ᶻ pos (x * (passed + rest)) =
+        linear≤ (pos (a % side) ∷ pos (a / side) ∷ pos (b % side) ∷ pos x ∷ pos passed ∷ pos rest ∷ []) (gap≤ (subst₂ Down e f h)) (search quote depth 20 fits 5000) tt in
+        leb→le bound (x * (passed + rest)) (g .le)),
+    (λ h. let g : pos bound ≤ᶻ pos (x * (passed + rest)) = record { le = le→leb bound (x * (passed + rest)) h } in
+        subst₂ Down (sym e) (sym f)
+        (linear≤ (pos (a % side) ∷ pos (a / side) ∷ pos (b % side) ∷ pos x ∷ pos passed ∷ pos rest ∷ []) (gap≤ g) (search quote depth 20 fits 5000) tt)),
+  )
+
+-- ---- in the row of one end, that end is the bound
+no-more : (m n k : ℕ) → 0 < k → m * k ≤ n * k → m ≤ n
+no-more m n k s h =
+    either (lt-or-le n m)
+    (λ l. let g : n + 1 ≤ m = omega arith in absurd (omega (arith, s, h, mul-le-mul-right k g, add-mul n 1 k)))
+    (λ l. l)
+
+pub at-foot : (a b y x : ℕ) → a / side ≡ y → y < b / side → LeftOf b a y x → a % side ≤ x
+at-foot a b y x e l h =
+    let rest = b / side - y in
+    let g : a % side * rest + b % side * 0 ≤ x * (0 + rest) = left-of-falling a b y x 0 rest (omega (arith, e)) (omega (arith, e, l)) .0 h in
+    no-more (a % side) x rest (omega (arith, l)) (omega (arith, g))
+
+pub at-head : (a b y x : ℕ) → b / side ≡ y → a / side < y → LeftOf a b y x → x ≤ b % side
+at-head a b y x e l h =
+    let passed = y - a / side in
+    let g : x * (passed + 0) ≤ a % side * 0 + b % side * passed = left-of-rising a b y x passed 0 (omega (arith, l)) (omega (arith, e, l)) .0 h in
+    no-more x (b % side) passed (omega (arith, l)) (omega (arith, g))
+
+-- ---- what the code computes of it
+module _ (a b y : ℕ) (h : Slope a b y) where
+  abbrev pub passed : ℕ
+  passed = y - a / side
+
+  abbrev pub rest : ℕ
+  rest = b / side - y
+
+  from-low : y ≡ a / side + passed
+  from-low = omega (arith, h .low)
+
+  to-high : b / side ≡ a / side + passed + rest
+  to-high = omega (arith, h .low, h .high)
+
+  pub some-rows : 0 < passed + rest
+  some-rows = omega (arith, h .low, h .high, h .steep)
+
+  -- no product is large: a column times rows
+  pub weighed-parts : (a % side * rest < cells) × (b % side * passed < cells)
+  weighed-parts = (small (a % side) rest (omega arith) (omega (arith, h .b-below)), small (b % side) passed (omega arith) (omega (arith, h .b-below, h .high)))
+    where
+      small : (m n : ℕ) → m < side → n < side → m * n < cells
+      small m n l k = let g : m ≤ 16383 = omega arith in omega (arith, k, mul-le-mul-right n g)
+
+  pub weighed-small : weighed a b passed rest ≤ 16383 * (passed + rest)
+  weighed-small =
+      let f : a % side ≤ 16383 = omega arith in
+      let g : b % side ≤ 16383 = omega arith in
+      omega (arith, mul-le-mul-right rest f, mul-le-mul-right passed g)
+
+  pub ends-at : EndsAt a b y (weighed a b passed rest / (passed + rest) + 1)
+  ends-at = record {
+    few = either (lt-or-le (weighed a b passed rest / (passed + rest)) side) (λ l. omega arith)
+        (λ l. let g : side * (passed + rest) ≤ weighed a b passed rest = le-div-iff-mul-le some-rows .0 l in absurd (omega (arith, weighed-small, some-rows, g)));
+    exactly = λ x. let e = left-of-rising a b y x passed rest from-low to-high in
+        let d = at-most x (weighed a b passed rest) (passed + rest) some-rows in
+        ((λ l. d .0 (e .0 l)), (λ l. e .1 (d .1 l)));
   }
 
-pub keeps-all : (P : ℕ → Type 0) (s : Stretch) → s .to ≤ side → ((x : ℕ) → Within s x → P x) → Keeps P s s
-keeps-all P s l f = record { few = l; kept = λ x w. (w, f x w); all = λ x w p. w }
-
--- ---- what is left of a stretch on the right side of a rising edge, on the left side of a falling one
-column-few : (s : Stretch) → s .to ≤ side → (x : ℕ) → Within s x → x < side
-column-few s few x w = omega (arith, w .to, few)
-
-module _ (s r : Stretch) (low high steep : ℕ) (few : s .to ≤ side) where
-  pub right-none : high < low → Keeps (λ x. x < 0) s r → Keeps (λ x. x * steep + low ≤ high) s r
-  right-none l h = keeps-as (λ x. x < 0) s r h (λ x. x * steep + low ≤ high) (λ x w p. absurd (omega arith)) (λ x w p. absurd (omega arith))
-
-  pub right-some : (n : ℕ) → low ≤ high → Columns (high - low) steep n → Keeps (λ x. x < n) s r → Keeps (λ x. x * steep + low ≤ high) s r
-  right-some n l k h =
-      keeps-as (λ x. x < n) s r h (λ x. x * steep + low ≤ high) (λ x w p. omega (arith, k .below x p))
-      (λ x w p. k .all x (column-few s few x w) (omega arith))
-
-  pub left-some : (n : ℕ) → high < low → Columns (low - high - 1) steep n → Keeps (λ x. n ≤ x) s r → Keeps (λ x. low ≤ x * steep + high) s r
-  left-some n l k h =
-      keeps-as (λ x. n ≤ x) s r h (λ x. low ≤ x * steep + high)
-      (λ x w p. either (lt-or-le (x * steep + high) low) (λ u. absurd (omega (arith, p, k .all x (column-few s few x w) (omega arith)))) (λ u. u))
-      (λ x w p. either (lt-or-le x n) (λ u. absurd (omega (arith, p, k .below x u))) (λ u. u))
-
--- ---- an edge that rises, falls, or does neither
-module _ (a b y : ℕ) (s r : Stretch) (few : s .to ≤ side) where
-  split : (m n x : ℕ) → m < n → (n - m) * x + m * x ≡ n * x
-  split m n x l = sym (add-mul (n - m) m x) ∙ ap (λ k. k * x) (omega arith)
-
-  pub narrow-rising : a / side < b / side → Keeps (λ x. x * (b / side - a / side) + low a b y ≤ high a b y) s r → Keeps (LeftOf a b y) s r
-  narrow-rising l h =
-      keeps-as (λ x. x * (b / side - a / side) + low a b y ≤ high a b y) s r h (LeftOf a b y)
-      (λ x w p. natural-left a b y x (omega (arith, p, split (a / side) (b / side) x l, mul-comm x (b / side - a / side))))
-      (λ x w p. omega (arith, left-natural a b y x p, split (a / side) (b / side) x l, mul-comm x (b / side - a / side)))
-
-  pub narrow-falling : b / side < a / side → Keeps (λ x. low a b y ≤ x * (a / side - b / side) + high a b y) s r → Keeps (LeftOf a b y) s r
-  narrow-falling l h =
-      keeps-as (λ x. low a b y ≤ x * (a / side - b / side) + high a b y) s r h (LeftOf a b y)
-      (λ x w p. natural-left a b y x (omega (arith, p, split (b / side) (a / side) x l, mul-comm x (a / side - b / side))))
-      (λ x w p. omega (arith, left-natural a b y x p, split (b / side) (a / side) x l, mul-comm x (a / side - b / side)))
-
-  -- in one row: all columns or none
-  level : (x : ℕ) → a / side ≡ b / side → a / side * x ≡ b / side * x
-  level x e = ap (λ k. k * x) e
-
-  pub narrow-none : a / side ≡ b / side → high a b y < low a b y → Keeps (λ x. x < 0) s r → Keeps (LeftOf a b y) s r
-  narrow-none e l h =
-      keeps-as (λ x. x < 0) s r h (LeftOf a b y) (λ x w p. absurd (omega arith))
-      (λ x w p. absurd (omega (arith, l, left-natural a b y x p, level x e)))
-
-pub narrow-all : (a b y : ℕ) (s : Stretch) → s .to ≤ side → a / side ≡ b / side → low a b y ≤ high a b y → Keeps (LeftOf a b y) s s
-narrow-all a b y s few e l = keeps-all (LeftOf a b y) s few (λ x w. natural-left a b y x (omega (arith, l, level a b y s s few x e)))
+  pub begins-at : BeginsAt b a y ((weighed a b passed rest + passed + rest - 1) / (passed + rest))
+  begins-at x =
+      let e = left-of-falling a b y x passed rest from-low to-high in
+      let d = at-least x (weighed a b passed rest) (passed + rest) (weighed a b passed rest + passed + rest - 1) some-rows (omega (arith, some-rows)) in
+      ((λ l. d .0 (e .0 l)), (λ l. e .1 (d .1 l)))
 
 -- ---- the first and the last corner
 cell-unpacked : (x y : ℕ) → x < side → cell x y ≡ unpacked (side * y + x)
@@ -133,23 +161,3 @@ module _ (k x y : ℕ) (h : x < side) where
 
   pub is-before-cell : k < side * y + x → Before (unpacked k) (cell x y)
   is-before-cell l = subst (Before (unpacked k)) (sym (cell-unpacked x y h)) (before-unpacked k (side * y + x) l)
-
-module _ (k y : ℕ) (s r : Stretch) (few : s .to ≤ side) where
-  pub first-same : k / side ≡ y → Keeps (λ x. k % side ≤ x) s r → Keeps (λ x. Before (cell x y) (unpacked k) → ⊥) s r
-  first-same e h =
-      keeps-as (λ x. k % side ≤ x) s r h (λ x. Before (cell x y) (unpacked k) → ⊥)
-      (λ x w p b. omega (arith, p, cell-before k x y (column-few s few x w) b))
-      (λ x w p. either (lt-or-le x (k % side)) (λ l. absurd (p (is-cell-before k x y (column-few s few x w) (omega arith)))) (λ l. l))
-
-  pub last-same : k / side ≡ y → Keeps (λ x. x < k % side + 1) s r → Keeps (λ x. Before (unpacked k) (cell x y) → ⊥) s r
-  last-same e h =
-      keeps-as (λ x. x < k % side + 1) s r h (λ x. Before (unpacked k) (cell x y) → ⊥)
-      (λ x w p b. omega (arith, p, before-cell k x y (column-few s few x w) b))
-      (λ x w p. either (lt-or-le x (k % side + 1)) (λ l. l) (λ l. absurd (p (is-before-cell k x y (column-few s few x w) (omega arith)))))
-
-pub first-below : (k y : ℕ) (s : Stretch) → s .to ≤ side → k / side < y → Keeps (λ x. Before (cell x y) (unpacked k) → ⊥) s s
-first-below k y s few l = keeps-all (λ x. Before (cell x y) (unpacked k) → ⊥) s few (λ x w b. omega (arith, l, cell-before k x y (column-few s few x w) b))
-
-pub last-above : (k y : ℕ) (s : Stretch) → s .to ≤ side → y < k / side → Keeps (λ x. Before (unpacked k) (cell x y) → ⊥) s s
-last-above k y s few l = keeps-all (λ x. Before (unpacked k) (cell x y) → ⊥) s few
-    (λ x w b. omega (arith, l, before-cell k x y (column-few s few x w) b, column-few s few x w))

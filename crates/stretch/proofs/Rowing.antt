@@ -2,22 +2,20 @@
 use mathlib.Core.Logic.{_↔_}
 use mathlib.Core.Path.{subst}
 use mathlib.Core.List.{List, map}
-use Prim.Native.Nat.{ℕ, _<_}
+use Prim.Native.Nat.{ℕ, _+_, _*_, _≤_, _<_}
 use native.Mathlib.Omega.{arith}
 use lib.ListN.{getD}
 use Rattle.lattice.specs.Point.{Point, In, Before}
 use Rattle.lattice.specs.Hull.{InHull, Of}
+use Rattle.lattice.proofs.Lists.{either}
+use Rattle.lattice.proofs.Places.{lt-or-le}
 use Rattle.lattice.proofs.CornerLists.{corner-list-shape}
 use Rattle.lattice.proofs.Polygon.{InsideEnds, polygon-by-ends}
 use Rattle.packed.specs.Packed.{side, cells, unpacked}
 use Rattle.packed.proofs.RowOrder.{unpacked-before}
 use Rattle.packed.proofs.KeyLaws.{unpacked-in, in-unpacked}
 use Rattle.stretch.specs.Stretch.{cell, Peaked}
-use Rattle.stretch.specs.declared.Stretch.{Stretch}
-
--- all columns
-abbrev pub whole : Stretch
-whole = record { from = 0; to = side }
+use Rattle.stretch.proofs.Counting.{cell-before, before-cell, is-cell-before, is-before-cell}
 
 -- between the first corner and the last in row order
 abbrev pub Between : List ℕ → ℕ → ℕ → ℕ → Type 0
@@ -42,3 +40,13 @@ module _ (corners : List ℕ) (peak y : ℕ) (h : Peaked corners peak y) where
 
   pub in-hull : (p : Point) → InHull (Of (map unpacked corners)) p ↔ InsideEnds (map unpacked corners) (unpacked lastOf) p
   in-hull = polygon-by-ends (map unpacked corners) (corner-list-shape (map unpacked corners) (map unpacked corners) (h .listed)) (unpacked lastOf) last-in none-after
+
+  -- in packed points
+  pub cells-between : (x : ℕ) → x < side → getD corners 0 0 ≤ side * y + x → side * y + x ≤ lastOf → Between corners lastOf y x
+  cells-between x n u v = ((λ b. omega (arith, u, cell-before (getD corners 0 0) x y n b)), (λ b. omega (arith, v, before-cell lastOf x y n b)))
+
+  pub between-cells : (x : ℕ) → x < side → Between corners lastOf y x → (getD corners 0 0 ≤ side * y + x) × (side * y + x ≤ lastOf)
+  between-cells x n b = (
+    either (lt-or-le (side * y + x) (getD corners 0 0)) (λ l. absurd (b .0 (is-cell-before (getD corners 0 0) x y n l))) (λ l. l),
+    either (lt-or-le lastOf (side * y + x)) (λ l. absurd (b .1 (is-before-cell lastOf x y n l))) (λ l. l),
+  )

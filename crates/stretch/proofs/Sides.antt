@@ -19,9 +19,10 @@ use Rattle.lattice.proofs.Polygon.{InsideEnds}
 use Rattle.packed.specs.Packed.{side, cells, placed, unpacked}
 use Rattle.packed.proofs.RowOrder.{unpacked-before, placed-order, order-placed, placed-grows}
 use Rattle.packed.proofs.KeyLaws.{unpacked-at, unpacked-in}
-use Rattle.stretch.specs.Stretch.{cell, Keeps, LeftOf, StretchOf, Peaked, Tall, After, Rises, Falls, RisesFrom, FallsFrom}
+use Rattle.stretch.specs.Stretch.{cell, Bounded, LeftOf, Slope, EndsAt, BeginsAt, StretchOf, Peaked, Tall, After, Rises, Falls, RisesFrom, FallsFrom}
 use Rattle.stretch.specs.declared.Stretch.{Stretch}
-use Rattle.stretch.proofs.Rowing.{whole, Between, in-hull}
+use Rattle.stretch.proofs.Counting.{at-foot, at-head}
+use Rattle.stretch.proofs.Rowing.{Between, in-hull, cells-between, between-cells}
 
 -- ---- an edge u v with a, b on its left, and p between their rows on the left of the way from a up to b, down to b
 -- where u v rises, p is on the left of u v as well
@@ -81,6 +82,17 @@ not-right a b p e h g l =
     let r : Positive ((b .x -ℤ a .x) *ℤ (a .y -ℤ a .y) -ℤ (b .y -ℤ a .y) *ℤ (p .x -ℤ a .x)) =
     subst (λ z. Positive ((b .x -ℤ a .x) *ℤ (z -ℤ a .y) -ℤ (b .y -ℤ a .y) *ℤ (p .x -ℤ a .x))) (sym e) l in
     linear⊥ (coordinates (a ∷ b ∷ p ∷ [])) (gap< r ⊞ gap< (product-positive w k)) (search quote depth 20) tt
+
+-- ---- the corner after another
+after-same : (corners : List ℕ) (i r s : ℕ) → After corners i r → After corners i s → r ≡ s
+after-same corners i r s (inl h) (inl g) = h .1 ∙ sym (g .1)
+after-same corners i r s (inl h) (inr g) = absurd (omega (arith, h .0, g .0))
+after-same corners i r s (inr h) (inl g) = absurd (omega (arith, h .0, g .0))
+after-same corners i r s (inr h) (inr g) = h .1 ∙ sym (g .1)
+
+after-below : (corners : List ℕ) (i r : ℕ) → ((j : ℕ) → j < length corners → getD corners j 0 < cells) → After corners i r → r < cells
+after-below corners i r f (inl h) = subst (λ n. n < cells) (sym (h .1)) (f (suc i) (h .0))
+after-below corners i r f (inr h) = subst (λ n. n < cells) (sym (h .1)) (f 0 (omega (arith, h .0)))
 
 -- ---- where the edges are found
 module _ (corners : List ℕ) (peak y : ℕ) (h : Peaked corners peak y) where
@@ -247,16 +259,19 @@ module _ (corners : List ℕ) (peak y : ℕ) (h : Peaked corners peak y) where
       to-last = between .1;
     }
 
-    pub flat : (s ends t : Stretch) → Keeps (λ x. Before (cell x y) (unpacked (getD corners 0 0)) → ⊥) whole s
-        → Keeps (λ x. Before (unpacked last) (cell x y) → ⊥) s ends → (t .from ≤ t .to) × Keeps (λ x. Unit {0}) ends t
-        → StretchOf (map unpacked corners) y t
-    flat s ends t k₁ k₂ k₃ = record {
-      rising = k₃ .0;
-      few = k₃ .1 .few;
-      inside = λ x w. let u₂ = k₂ .kept x (k₃ .1 .kept x w .0) in let u₁ = k₁ .kept x (u₂ .0) in inside (cell x y) .1 (flat-ends x (u₁ .1, u₂ .1));
+    same-row : (getD corners 0 0 / side ≡ y) × (last / side ≡ y)
+    same-row = (omega (arith, n, h .from-row, h .to-row), omega (arith, n, h .from-row, h .to-row))
+
+    pub flat : (t : Stretch) → Bounded (getD corners 0 0 % side) (last % side + 1) t → StretchOf (map unpacked corners) y t
+    flat t k = record {
+      rising = k .in-order;
+      few = omega (arith, k .ends);
+      inside = λ x w. let u = k .exactly x .0 w in
+          inside (cell x y) .1 (flat-ends x (cells-between corners peak y h x (omega (arith, u .1)) (omega (arith, u .0, same-row)) (omega (arith, u .1, same-row))));
       all = λ x m i. let v = inside (cell x y) .0 i in
-          k₃ .1 .all x (k₂ .all x (k₁ .all x (record { from = omega arith; to = m })
-          (λ u. v .from-first (subst (Before (cell x y)) (sym (unpacked-at corners 0 (omega (arith, h .peaks .inside)))) u))) (v .to-last)) tt;
+          let u = between-cells corners peak y h x m
+          ((λ b. v .from-first (subst (Before (cell x y)) (sym (unpacked-at corners 0 (omega (arith, h .peaks .inside)))) b)), v .to-last) in
+          k .exactly x .1 (omega (arith, u .0, m, same-row), omega (arith, u .1, m, same-row));
     }
 
   module _ (i : ℕ) (r : Rises corners y i) (j : ℕ) (f : Falls corners y j) (l : j < length corners) where
@@ -302,9 +317,8 @@ module _ (corners : List ℕ) (peak y : ℕ) (h : Peaked corners peak y) where
     }
 
     ends-inside : (x : ℕ) → InsideEnds (map unpacked corners) (unpacked last) (cell x y)
-        → Between corners last y x × LeftOf (getD corners i 0) (getD corners (suc i) 0) y x × LeftOf (getD corners j 0) (f .end) y x
+        → LeftOf (getD corners i 0) (getD corners (suc i) 0) y x × LeftOf (getD corners j 0) (f .end) y x
     ends-inside x s = (
-      ((λ u. s .from-first (subst (Before (cell x y)) (sym (unpacked-at corners 0 (omega (arith, l)))) u)), s .to-last),
       subst₂ (λ p q. NonNegative (turn p q (cell x y))) (unpacked-at corners i (omega (arith, r .inside))) (unpacked-at corners (suc i) (r .inside))
           (s .edges i (omega (arith, r .inside, length-map corners unpacked))),
       either (f .after)
@@ -314,31 +328,61 @@ module _ (corners : List ℕ) (peak y : ℕ) (h : Peaked corners peak y) where
           (s .closing j (omega (arith, k .0, length-map corners unpacked)))),
     )
 
-    pub crossed : (s ends left closed t : Stretch) → Keeps (λ x. Before (cell x y) (unpacked (getD corners 0 0)) → ⊥) whole s
-        → Keeps (λ x. Before (unpacked last) (cell x y) → ⊥) s ends → Keeps (LeftOf (getD corners i 0) (getD corners (suc i) 0) y) ends left
-        → (end : ℕ) → end ≡ f .end → Keeps (LeftOf (getD corners j 0) end y) left closed → (t .from ≤ t .to) × Keeps (λ x. Unit {0}) closed t
-        → StretchOf (map unpacked corners) y t
-    crossed s ends left closed t k₁ k₂ k₃ end q k₄ k₅ = record {
-      rising = k₅ .0;
-      few = k₅ .1 .few;
-      inside = λ x w.
-          let u₄ = k₄ .kept x (k₅ .1 .kept x w .0) in
-          let u₃ = k₃ .kept x (u₄ .0) in
-          let u₂ = k₂ .kept x (u₃ .0) in
-          let u₁ = k₁ .kept x (u₂ .0) in
-          inside (cell x y) .1 (inside-ends x (u₁ .1, u₂ .1) (u₃ .1) (subst (λ n. LeftOf (getD corners j 0) n y x) q (u₄ .1)));
-      all = λ x n m.
-          let v = ends-inside x (inside (cell x y) .0 m) in
-          k₅ .1 .all x (k₄ .all x (k₃ .all x (k₂ .all x (k₁ .all x (record { from = omega arith; to = n }) (v .0 .0)) (v .0 .1)) (v .1))
-          (subst (λ n. LeftOf (getD corners j 0) n y x) (sym q) (v .2))) tt;
-    }
+    -- on the left of both it is between the first corner and the last
+    both-between : (x : ℕ) → x < side → LeftOf (getD corners i 0) (getD corners (suc i) 0) y x → LeftOf (getD corners j 0) (f .end) y x
+        → Between corners last y x
+    both-between x n up down =
+        cells-between corners peak y h x n
+        (either (lt-or-le (f .end / side) y) (λ k. omega (arith, h .from-row, end-from, k, f .low))
+        (λ k. let q : f .end / side ≡ y = omega (arith, k, f .low) in
+        omega (arith, end-from, q, at-foot (f .end) (getD corners j 0) y x q (omega (arith, q, f .steep)) down)))
+        (either (lt-or-le y (getD corners (suc i) 0 / side)) (λ k. omega (arith, n, k, top))
+        (λ k. let q : getD corners (suc i) 0 / side ≡ y = omega (arith, k, r .high) in
+        omega (arith, top, q, at-head (getD corners i 0) (getD corners (suc i) 0) y x q (omega (arith, q, r .steep)) up)))
+      where
+        top : getD corners (suc i) 0 ≤ last
+        top = h .peaks .greatest (suc i) (r .inside)
 
-pub after-same : (corners : List ℕ) (i r s : ℕ) → After corners i r → After corners i s → r ≡ s
-after-same corners i r s (inl h) (inl g) = h .1 ∙ sym (g .1)
-after-same corners i r s (inl h) (inr g) = absurd (omega (arith, h .0, g .0))
-after-same corners i r s (inr h) (inl g) = absurd (omega (arith, h .0, g .0))
-after-same corners i r s (inr h) (inr g) = h .1 ∙ sym (g .1)
+        end-from : getD corners 0 0 ≤ f .end
+        end-from = either (f .after)
+            (λ k. omega (arith, k .1, first-least corners peak y h j (k .0)))
+            (λ k. omega (arith, k .1))
 
-pub after-below : (corners : List ℕ) (i r : ℕ) → ((j : ℕ) → j < length corners → getD corners j 0 < cells) → After corners i r → r < cells
-after-below corners i r f (inl h) = subst (λ n. n < cells) (sym (h .1)) (f (suc i) (h .0))
-after-below corners i r f (inr h) = subst (λ n. n < cells) (sym (h .1)) (f 0 (omega (arith, h .0)))
+    pub rising-slope : Slope (getD corners i 0) (getD corners (i + 1) 0) y
+    rising-slope = subst (λ k. Slope (getD corners i 0) (getD corners k 0) y) (sym (add-one i)) (record {
+      a-below = h .below i (omega (arith, r .inside));
+      b-below = h .below (suc i) (r .inside);
+      low = r .low;
+      high = r .high;
+      steep = r .steep;
+    })
+
+    module _ (end : ℕ) (after : After corners j end) where
+      same-end : end ≡ f .end
+      same-end = after-same corners j end (f .end) after (f .after)
+
+      pub falling-slope : Slope end (getD corners j 0) y
+      falling-slope = subst (λ k. Slope k (getD corners j 0) y) (sym same-end) (record {
+        a-below = after-below corners j (f .end) (h .below) (f .after);
+        b-below = h .below j l;
+        low = f .low;
+        high = f .high;
+        steep = f .steep;
+      })
+
+      pub crossed : (from to : ℕ) (t : Stretch) → EndsAt (getD corners i 0) (getD corners (i + 1) 0) y to → BeginsAt (getD corners j 0) end y from
+          → Bounded from to t → StretchOf (map unpacked corners) y t
+      crossed from to t k₁ k₂ k₃ = record {
+        rising = k₃ .in-order;
+        few = omega (arith, k₃ .ends, k₁ .few);
+        inside = λ x w.
+            let u = k₃ .exactly x .0 w in
+            let up = subst (λ k. LeftOf (getD corners i 0) (getD corners k 0) y x) (add-one i) (k₁ .exactly x .1 (u .1)) in
+            let down = subst (λ n. LeftOf (getD corners j 0) n y x) same-end (k₂ x .1 (u .0)) in
+            inside (cell x y) .1 (inside-ends x (both-between x (omega (arith, u .1, k₁ .few)) up down) up down);
+        all = λ x n m.
+            let v = ends-inside x (inside (cell x y) .0 m) in
+            let up = subst (λ k. LeftOf (getD corners i 0) (getD corners k 0) y x) (sym (add-one i)) (v .0) in
+            let down = subst (λ n. LeftOf (getD corners j 0) n y x) (sym same-end) (v .1) in
+            k₃ .exactly x .1 (k₂ x .0 down, k₁ .exactly x .0 up);
+      }

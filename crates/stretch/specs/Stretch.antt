@@ -1,8 +1,8 @@
 -- The points of a row that lie in a hull: one stretch of columns. Assumes nothing.
 use mathlib.Core.Path.{_≡_}
-use mathlib.Core.Logic.{_⊎_}
+use mathlib.Core.Logic.{_⊎_, _↔_}
 use mathlib.Core.List.{List, map}
-use Prim.Native.Nat.{ℕ, suc, _*_, _/_, _≤_, _<_}
+use Prim.Native.Nat.{ℕ, suc, _/_, _≤_, _<_}
 use lib.ListN.{length, getD}
 use lib.IntN.{pos}
 use lib.Signed.{_≤ℤ_}
@@ -20,21 +20,31 @@ pub record Within (s : Stretch) (x : ℕ) : Type 0 where
   pub from : s .from ≤ x
   pub to : x < s .to
 
--- the first r columns, and no others, have at most bound when taken `steep` times
-pub record Columns (bound steep r : ℕ) : Type 0 where
-  pub few : r ≤ side
-  pub below : (x : ℕ) → x < r → x * steep ≤ bound
-  pub all : (x : ℕ) → x < side → x * steep ≤ bound → x < r
-
--- r has those columns of s of which P holds
-pub record Keeps (P : ℕ → Type 0) (s r : Stretch) : Type 0 where
-  pub few : r .to ≤ side
-  pub kept : (x : ℕ) → Within r x → Within s x × P x
-  pub all : (x : ℕ) → Within s x → P x → Within r x
+-- s has the columns from `begin` on and below `end`, and no others
+pub record Bounded (begin end : ℕ) (s : Stretch) : Type 0 where
+  pub in-order : s .from ≤ s .to
+  pub ends : s .to ≡ end
+  pub exactly : (x : ℕ) → Within s x ↔ ((begin ≤ x) × (x < end))
 
 -- the point of row y in column x is to the left of the edge from a to b, or on it
 abbrev pub LeftOf : ℕ → ℕ → ℕ → ℕ → Type 0
 LeftOf a b y x = pos 0 ≤ℤ turn (unpacked a) (unpacked b) (cell x y)
+
+-- the way from a up to b crosses row y
+pub record Slope (a b y : ℕ) : Type 0 where
+  pub a-below : a < cells
+  pub b-below : b < cells
+  pub low : a / side ≤ y
+  pub high : y ≤ b / side
+  pub steep : a / side < b / side
+
+-- the edge from a to b has on its left, or on it, the columns of row y below r; from r on
+pub record EndsAt (a b y r : ℕ) : Type 0 where
+  pub few : r ≤ side
+  pub exactly : (x : ℕ) → LeftOf a b y x ↔ x < r
+
+abbrev pub BeginsAt : ℕ → ℕ → ℕ → ℕ → Type 0
+BeginsAt a b y r = (x : ℕ) → LeftOf a b y x ↔ r ≤ x
 
 -- the stretch has exactly the columns in which row y has a point of the hull of c
 pub record StretchOf (c : List Point) (y : ℕ) (s : Stretch) : Type 0 where

@@ -1,11 +1,10 @@
-// Where a hull begins and ends in each row: what its edges leave of the row.
+// Where a hull begins and ends in each row: where two of its edges cross the row.
 ghost use mathlib.Core.Path.{_≡_};
 ghost use mathlib.Core.List.{map};
 ghost use lib.ListN.{length};
-ghost use Prim.Native.Nat.{_<_, _≤_, _+_, _*_, _/_};
-ghost use Rattle.lattice.specs.Point.{Before};
-ghost use Rattle.packed.specs.Packed.{side, cells, unpacked};
-ghost use Rattle.stretch.specs.Stretch.{cell, Columns, Keeps, LeftOf, StretchOf, Peaked, Tall, After as AfterOf, Rises, Falls, RisesFrom, FallsFrom};
+ghost use Prim.Native.Nat.{_<_};
+ghost use Rattle.packed.specs.Packed.{unpacked};
+ghost use Rattle.stretch.specs.Stretch.{Bounded, Slope, EndsAt, BeginsAt, StretchOf, Peaked, Tall, After as AfterOf, Rises, Falls, RisesFrom, FallsFrom};
 
 // Columns moved to start at 0, from `from` to below `to`.
 pub struct Stretch {
@@ -22,122 +21,37 @@ pub struct Crossing {
 
 const SIDE: u32 = 16384;
 
-// How many columns, from the first, come to at most `bound` when taken `steep` times.
-fn columns(bound: u64, steep: u64) -> u32
-    requires { ⌜ 0 < steep ⌝ }
-    ensures { λ r. ⌜ Columns bound steep r ⌝ }
+// Where a rising edge, from a up to b, crosses row y: one behind the last column on its left or on it.
+fn right_end(a: u32, b: u32, y: u32) -> u32
+    requires { ⌜ Slope a b y ⌝ }
+    ensures { λ r. ⌜ EndsAt a b y r ⌝ }
 {
-    let last = bound / steep;
-    if last < 16384 {
-        return last as u32 + 1;
-    }
-    SIDE
+    let passed = y - a / SIDE;
+    let rest = b / SIDE - y;
+    (a % SIDE * rest + b % SIDE * passed) / (passed + rest) + 1
 }
 
-// What is left of a stretch before a column, and from one on.
-fn ended(stretch: Stretch, end: u32) -> Stretch
-    requires { ⌜ end ≤ side ⌝ }
-    ensures { λ r. ⌜ Keeps (λ x. x < end) stretch r ⌝ }
+// Where a falling edge, from b down to a, crosses it: the first column on its left or on it.
+fn left_begin(a: u32, b: u32, y: u32) -> u32
+    requires { ⌜ Slope a b y ⌝ }
+    ensures { λ r. ⌜ BeginsAt b a y r ⌝ }
 {
-    if end < stretch.to {
-        return Stretch {
-            from: stretch.from,
-            to: end,
-        };
-    }
-    stretch
+    let passed = y - a / SIDE;
+    let rest = b / SIDE - y;
+    (a % SIDE * rest + b % SIDE * passed + passed + rest - 1) / (passed + rest)
 }
 
-fn begun(stretch: Stretch, begin: u32) -> Stretch
-    requires { ⌜ stretch .to ≤ side ⌝ }
-    ensures { λ r. ⌜ Keeps (λ x. begin ≤ x) stretch r ⌝ }
+// The columns from `begin` to below `end`, none if these pass each other.
+fn between(begin: u32, end: u32) -> Stretch
+    ensures { λ r. ⌜ Bounded begin end r ⌝ }
 {
-    if stretch.from < begin {
-        return Stretch {
-            from: begin,
-            to: stretch.to,
-        };
+    if end < begin {
+        return Stretch { from: end, to: end };
     }
-    stretch
-}
-
-// The columns x with rise x + low at most high; with low at most fall x + high.
-fn to_right(stretch: Stretch, low: u64, high: u64, rise: u64) -> Stretch
-    requires { ⌜ (0 < rise) × (stretch .to ≤ side) ⌝ }
-    ensures { λ r. ⌜ Keeps (λ x. x * rise + low ≤ high) stretch r ⌝ }
-{
-    if high < low {
-        return ended(stretch, 0);
+    Stretch {
+        from: begin,
+        to: end,
     }
-    ended(stretch, columns(high - low, rise))
-}
-
-fn to_left(stretch: Stretch, low: u64, high: u64, fall: u64) -> Stretch
-    requires { ⌜ (0 < fall) × (stretch .to ≤ side) ⌝ }
-    ensures { λ r. ⌜ Keeps (λ x. low ≤ x * fall + high) stretch r ⌝ }
-{
-    if low <= high {
-        return stretch;
-    }
-    begun(stretch, columns(low - high - 1, fall))
-}
-
-// What the edge from a to b leaves of a stretch of row y.
-fn narrow(a: u32, b: u32, y: u32, stretch: Stretch) -> Stretch
-    requires { ⌜ (a < cells) × (b < cells) × (y < side) × (stretch .to ≤ side) ⌝ }
-    ensures { λ r. ⌜ Keeps (LeftOf a b y) stretch r ⌝ }
-{
-    let ax = (a % SIDE) as u64;
-    let ay = (a / SIDE) as u64;
-    let bx = (b % SIDE) as u64;
-    let by = (b / SIDE) as u64;
-    let low = bx * ay + ax * y as u64;
-    let high = by * ax + bx * y as u64;
-    if ay < by {
-        return to_right(stretch, low, high, by - ay);
-    }
-    if by < ay {
-        return to_left(stretch, low, high, ay - by);
-    }
-    if low <= high {
-        return stretch;
-    }
-    ended(stretch, 0)
-}
-
-// What is left of a stretch of row y from the first corner on; up to the last in row order.
-fn from_first(first: u32, y: u32, stretch: Stretch) -> Stretch
-    requires { ⌜ (first < cells) × (first / side ≤ y) × (stretch .to ≤ side) ⌝ }
-    ensures { λ r. ⌜ Keeps (λ x. Before (cell x y) (unpacked first) → ⊥) stretch r ⌝ }
-{
-    if first / SIDE == y {
-        return begun(stretch, first % SIDE);
-    }
-    stretch
-}
-
-fn to_last(last: u32, y: u32, stretch: Stretch) -> Stretch
-    requires { ⌜ (last < cells) × (y ≤ last / side) × (stretch .to ≤ side) ⌝ }
-    ensures { λ r. ⌜ Keeps (λ x. Before (unpacked last) (cell x y) → ⊥) stretch r ⌝ }
-{
-    if last / SIDE == y {
-        return ended(stretch, last % SIDE + 1);
-    }
-    stretch
-}
-
-// A stretch that does not end before it begins.
-fn tidy(stretch: Stretch) -> Stretch
-    requires { ⌜ stretch .to ≤ side ⌝ }
-    ensures { λ r. ⌜ (r .from ≤ r .to) × Keeps (λ x. Unit {0}) stretch r ⌝ }
-{
-    if stretch.to < stretch.from {
-        return Stretch {
-            from: stretch.to,
-            to: stretch.to,
-        };
-    }
-    stretch
 }
 
 // The corner after that at a place; after the last comes the first.
@@ -205,24 +119,12 @@ fn falling(corners: &[u32], peak: usize, y: u32, near: usize) -> usize
     i
 }
 
-// What the two edges that cross row y leave of it.
-fn across(corners: &[u32], peak: usize, y: u32, rising: usize, falling: usize) -> Stretch
-    requires { ⌜ Peaked (now corners) peak y × Rises (now corners) y rising × Falls (now corners) y falling × (falling < length (now corners)) ⌝ }
-    ensures { λ r. ⌜ StretchOf (map unpacked (now (corners .entry))) y r ⌝ }
-{
-    let row = Stretch { from: 0, to: SIDE };
-    let ends = to_last(corners[peak], y, from_first(corners[0], y, row));
-    let left = narrow(corners[rising], corners[rising + 1], y, ends);
-    tidy(narrow(corners[falling], after(corners, falling), y, left))
-}
-
 // The row of a hull that has no other.
 fn only_row(corners: &[u32], peak: usize, y: u32) -> Stretch
     requires { ⌜ Peaked (now corners) peak y × (Tall (now corners) peak → ⊥) ⌝ }
     ensures { λ r. ⌜ StretchOf (map unpacked (now (corners .entry))) y r ⌝ }
 {
-    let row = Stretch { from: 0, to: SIDE };
-    tidy(to_last(corners[peak], y, from_first(corners[0], y, row)))
+    between(corners[0] % SIDE, corners[peak] % SIDE + 1)
 }
 
 // Before the first row: no edge is known.
@@ -251,8 +153,10 @@ pub fn of_next(corners: &[u32], peak: usize, y: u32, near: Crossing) -> Crossing
     }
     let rising = rising(corners, peak, y, near.rising);
     let falling = falling(corners, peak, y, near.falling);
+    let end = right_end(corners[rising], corners[rising + 1], y);
+    let begin = left_begin(after(corners, falling), corners[falling], y);
     Crossing {
-        stretch: across(corners, peak, y, rising, falling),
+        stretch: between(begin, end),
         rising,
         falling,
     }

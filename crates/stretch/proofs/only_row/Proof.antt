@@ -2,43 +2,33 @@
 use borrow.Author.Needs.{needs}
 use Rattle.stretch.proofs.only_row.Statement.{statement}
 use Rattle.stretch.proofs.only_row.Tie as tie
-use native.Mathlib.Omega.{arith}
-use borrow.Author.Needs.{needs}
 use Rattle.stretch.proofs.Sides.{flat}
 
-mul-to-last : tie.Need-mul-to-last
-mul-to-last c = search needs
+shared-slice-read-between : tie.Need-shared-slice-read-between
+shared-slice-read-between c = search needs
 
-shared-slice-read-to-last : tie.Need-shared-slice-read-to-last
-shared-slice-read-to-last c = search needs
+mul-between : tie.Need-mul-between
+mul-between c = search needs
 
-shared-slice-read-from-first : tie.Need-shared-slice-read-from-first
-shared-slice-read-from-first c = search needs
+shared-slice-read-between-2 : tie.Need-shared-slice-read-between-2
+shared-slice-read-between-2 c = search needs
 
-from-first-requires : tie.Need-from-first-requires
-from-first-requires c κs = let h = c .before .before .before .pre .0 in
-    (h .below 0 (omega (arith, h .peaks .inside)), h .from-row, omega arith)
+add-between : tie.Need-add-between
+add-between c = search needs
 
-to-last-requires : tie.Need-to-last-requires
-to-last-requires c κs = let h = c .before .before .before .before .pre .0 in
-    (h .below _ (h .peaks .inside), h .to-row, c .from-first .ensures .few)
-
-tidy-requires : tie.Need-tidy-requires
-tidy-requires c κs = c .to-last .ensures .few
+between-requires : tie.Need-between-requires
+between-requires c κs = search needs
 
 returns : tie.Need-returns
-returns c = let t = c .before in
-    let a = t .before .before .before .before .before in
-    flat _ _ _ (a .pre .0) (a .pre .1) _ _ _ (t .before .from-first .ensures) (t .to-last .ensures) (c .tidy .ensures)
+returns c = let a = c .before .before .before .before in flat _ _ _ (a .pre .0) (a .pre .1) _ (c .between .ensures)
 
 pub only-row-spec : {M : Type 1} → statement M
 only-row-spec =
     tie.close
     (tie.spec
-    mul-to-last
-    shared-slice-read-to-last
-    shared-slice-read-from-first
-    from-first-requires
-    to-last-requires
-    tidy-requires
+    shared-slice-read-between
+    mul-between
+    shared-slice-read-between-2
+    add-between
+    between-requires
     returns)
