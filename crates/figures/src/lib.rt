@@ -166,14 +166,11 @@ fn figures_many(list: &[i32], ordered: &mut [i32], corners: &mut [i32]) -> Figur
 pub fn figures(list: &[i32], ordered: &mut [i32], corners: &mut [i32]) -> Figured
     ensures { λ r. ⌜ FiguresPromise (now (list .entry)) (now (ordered .entry)) (now (corners .entry)) r (now (ordered .exit)) (now (corners .exit)) ⌝ }
 {
-    let n = list.len() / 2;
-    if n <= 64 {
+    let tier = order::tier(list);
+    if tier == 0 {
         return figures_few(list, ordered, corners);
     }
-    if packed::MOST < n {
-        return figures_few(list, ordered, corners);
-    }
-    if n <= 512 {
+    if tier == 1 {
         return figures_some(list, ordered, corners);
     }
     figures_many(list, ordered, corners)

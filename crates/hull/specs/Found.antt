@@ -4,18 +4,18 @@ use mathlib.Core.List.{List, map}
 use Prim.Native.Nat.{ℕ, zero, suc, _*_, _≤_}
 use lib.ListN.{length, take}
 use lib.IntN.{ℤ}
-use Rattle.lattice.specs.Point.{Point, most, points}
+use Rattle.lattice.specs.Point.{Point, points}
 use Rattle.lattice.specs.Hull.{CornerList}
 use Rattle.lattice.specs.Refusal.{accepted, Gives}
 use Rattle.lattice.specs.Room.{TooSmall}
 use Rattle.packed.specs.Packed.{unpacked}
-use Rattle.order.specs.Keys.{Below, KeysOf, Space}
+use Rattle.order.specs.Keys.{Below, KeysOf, Measured, Space}
 use Rattle.hull.specs.declared.Hulled.{Hulled}
 use Rattle.hull.specs.Hull.{hullRows}
 
 -- working space for the corners of a list: two places for each point
 abbrev pub StackSpace : List ℤ → List ℕ → Type 0
-StackSpace list stack = length (points list) ≤ most → 2 * length (points list) ≤ length stack
+StackSpace list stack = Measured list → 2 * length (points list) ≤ length stack
 
 abbrev pub HullSpace : List ℤ → List ℕ → List ℕ → List ℕ → List ℕ → Type 0
 HullSpace list words sorted keys stack = Space list words × Space list sorted × Space list keys × StackSpace list stack

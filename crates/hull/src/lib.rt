@@ -271,14 +271,11 @@ fn hull_many(list: &[i32], ordered: &mut [i32], corners: &mut [i32]) -> Hulled
 pub fn hull(list: &[i32], ordered: &mut [i32], corners: &mut [i32]) -> Hulled
     ensures { λ r. ⌜ HullPromise (now (list .entry)) (now (ordered .entry)) (now (corners .entry)) r (now (ordered .exit)) (now (corners .exit)) ⌝ }
 {
-    let n = list.len() / 2;
-    if n <= 64 {
+    let tier = order::tier(list);
+    if tier == 0 {
         return hull_few(list, ordered, corners);
     }
-    if packed::MOST < n {
-        return hull_few(list, ordered, corners);
-    }
-    if n <= 512 {
+    if tier == 1 {
         return hull_some(list, ordered, corners);
     }
     hull_many(list, ordered, corners)

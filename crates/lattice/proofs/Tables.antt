@@ -77,10 +77,6 @@ list-passes a later i (inr (odd, inr (more, inr (outside, inr (repeats, h))))) =
   once = place-pairs (λ p q. p ≡ q → ⊥) (points a) (λ j k l m e. repeats k (m, (j, l, sym e)));
 }
 
--- a list that passes has no more than 4,096 points
-pub list-few : (a : List ℤ) (i : ℕ) → Gives (listRows a accepted) 0 i → length (points a) ≤ most
-list-few a i g = list-passes a accepted i g .few
-
 -- ---- rows 3 and 4 that do not apply
 pub none-out-of-range : (l : List Point) → All InRange l → (j : ℕ) → AtPoint OutOfRange l j → ⊥
 none-out-of-range l h j (k, n) = n (all-place InRange l h j k)

@@ -7,22 +7,22 @@ use native.Mathlib.Omega.{arith}
 use lib.ListN.{length, take, length-map}
 use lib.Seq.{length-take-le}
 use lib.IntN.{ℤ}
-use Rattle.lattice.specs.Point.{most, points}
+use Rattle.lattice.specs.Point.{points}
 use Rattle.lattice.specs.Hull.{Of}
 use Rattle.lattice.specs.Refusal.{accepted, _when_else_, Gives, Whole, listRows}
 use Rattle.lattice.specs.Room.{holding, TooSmall}
 use Rattle.lattice.proofs.Refusals.{gives-unique}
 use Rattle.lattice.proofs.SameMembers.{lists-unique}
-use Rattle.lattice.proofs.Tables.{declined-before, passed-before, whole-first, whole-never, list-few}
+use Rattle.lattice.proofs.Tables.{declined-before, passed-before, whole-first, whole-never, list-passes}
 use Rattle.packed.specs.Packed.{unpacked}
 use Rattle.order.specs.declared.Ordered.{Ordered}
 use Rattle.order.specs.Order.{orderRows, OrderResult, OrderPromise}
-use Rattle.order.specs.Keys.{KeysOf, FindResult, Finds}
+use Rattle.order.specs.Keys.{KeysOf, Measured, FindResult, Finds}
 
 -- what `find` tells of an accepted list: its points stand packed, in row order, at the front of keys
 pub record FoundKeys (list : List ℤ) (answer : Ordered) (keys : List ℕ) : Type 0 where
   pub passed : Gives (listRows list accepted) 0 (answer .place)
-  pub few : length (points list) ≤ most
+  pub measured : Measured list
   pub all : answer .points ≡ length (points list)
   pub inside : answer .points ≤ length keys
   pub long : length (take (answer .points) keys) ≡ answer .points
@@ -34,7 +34,7 @@ found-keys {list} {answer} {keys} e f =
     let r = subst (λ n. FindResult list n (answer .points) keys) e (f .result) in
     record {
       passed = g;
-      few = list-few list (answer .place) g;
+      measured = let p = list-passes list accepted (answer .place) g in (p .even, p .few);
       all = r .0;
       inside = r .1;
       long = length-take-le (answer .points) keys (r .1);

@@ -251,14 +251,11 @@ fn verdict_many(list: &[i32], ordered: &mut [i32], corners: &mut [i32]) -> Judge
 pub fn verdict(list: &[i32], ordered: &mut [i32], corners: &mut [i32]) -> Judged
     ensures { λ r. ⌜ VerdictPromise (now (list .entry)) (now (ordered .entry)) (now (corners .entry)) r (now (ordered .exit)) (now (corners .exit)) ⌝ }
 {
-    let n = list.len() / 2;
-    if n <= 64 {
+    let tier = order::tier(list);
+    if tier == 0 {
         return verdict_few(list, ordered, corners);
     }
-    if packed::MOST < n {
-        return verdict_few(list, ordered, corners);
-    }
-    if n <= 512 {
+    if tier == 1 {
         return verdict_some(list, ordered, corners);
     }
     verdict_many(list, ordered, corners)
@@ -378,14 +375,11 @@ pub fn report(
 ) -> Reported
     ensures { λ r. ⌜ ReportPromise (now (list .entry)) (now (ordered .entry)) (now (corners .entry)) (now (missing .entry)) r (now (ordered .exit)) (now (corners .exit)) (now (missing .exit)) ⌝ }
 {
-    let n = list.len() / 2;
-    if n <= 64 {
+    let tier = order::tier(list);
+    if tier == 0 {
         return report_few(list, ordered, corners, missing);
     }
-    if packed::MOST < n {
-        return report_few(list, ordered, corners, missing);
-    }
-    if n <= 512 {
+    if tier == 1 {
         return report_some(list, ordered, corners, missing);
     }
     report_many(list, ordered, corners, missing)

@@ -59,7 +59,7 @@ slice-aggregate-scan c = sym (found (c .before .before) .long)
 scan-requires : tie.Need-scan-requires
 scan-requires c κs = let e = c .before .before .before in
     let f = found e in
-    (keys-rise _ _ (f .keys-of), omega (arith, f .long, f .all, e .before .before .before .before .before .before .before .before .before .before .before .before .before .before .before .pre .3 (f .few)))
+    (keys-rise _ _ (f .keys-of), omega (arith, f .long, f .all, e .before .before .before .before .before .before .before .before .before .before .before .before .before .before .before .pre .3 (f .measured)))
 
 declined-requires-3 : tie.Need-declined-requires-3
 declined-requires-3 c κs = search needs

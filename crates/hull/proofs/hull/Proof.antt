@@ -1,13 +1,13 @@
 -- `hull::hull` meets its contract: each tier has space enough. Assumes nothing.
-use native.Mathlib.Omega.{arith}
 use borrow.Author.Needs.{needs}
-use denote.Ref.{now}
-use Rattle.lattice.proofs.Numbers.{points-length}
 use Rattle.hull.proofs.hull.Statement.{statement}
 use Rattle.hull.proofs.hull.Tie as tie
 
+tier-requires : tie.Need-tier-requires
+tier-requires c κs = search needs
+
 hull-few-requires : tie.Need-hull-few-requires
-hull-few-requires c κs = λ h. omega (arith, h, points-length (now (c .before .before .before .args .list)))
+hull-few-requires c κs = c .before .before .before .tier .ensures .few (c .before .before .if1 .taken)
 
 same-length : tie.Need-same-length
 same-length c = search needs
@@ -18,8 +18,8 @@ same-length-2 c = search needs
 returns : tie.Need-returns
 returns c = search needs
 
-hull-few-requires-2 : tie.Need-hull-few-requires-2
-hull-few-requires-2 c κs = λ h. omega (arith, h, points-length (now (c .before .before .before .before .args .list)))
+hull-some-requires : tie.Need-hull-some-requires
+hull-some-requires c κs = c .before .before .before .before .tier .ensures .some (c .before .before .if2 .taken)
 
 same-length-3 : tie.Need-same-length-3
 same-length-3 c = search needs
@@ -30,8 +30,8 @@ same-length-4 c = search needs
 returns-2 : tie.Need-returns-2
 returns-2 c = search needs
 
-hull-some-requires : tie.Need-hull-some-requires
-hull-some-requires c κs = λ h. omega (arith, h, points-length (now (c .before .before .before .before .before .args .list)))
+hull-many-requires : tie.Need-hull-many-requires
+hull-many-requires c κs = search needs
 
 same-length-5 : tie.Need-same-length-5
 same-length-5 c = search needs
@@ -42,35 +42,20 @@ same-length-6 c = search needs
 returns-3 : tie.Need-returns-3
 returns-3 c = search needs
 
-hull-many-requires : tie.Need-hull-many-requires
-hull-many-requires c κs = search needs
-
-same-length-7 : tie.Need-same-length-7
-same-length-7 c = search needs
-
-same-length-8 : tie.Need-same-length-8
-same-length-8 c = search needs
-
-returns-4 : tie.Need-returns-4
-returns-4 c = search needs
-
 pub hull-spec : {M : Type 1} → statement M
 hull-spec =
     tie.close
     (tie.spec
+    tier-requires
     hull-few-requires
     same-length
     same-length-2
     returns
-    hull-few-requires-2
+    hull-some-requires
     same-length-3
     same-length-4
     returns-2
-    hull-some-requires
+    hull-many-requires
     same-length-5
     same-length-6
-    returns-3
-    hull-many-requires
-    same-length-7
-    same-length-8
-    returns-4)
+    returns-3)

@@ -11,7 +11,7 @@ use lib.IntN.{ℤ}
 use Rattle.lattice.specs.Point.{most, points}
 use Rattle.lattice.specs.Refusal.{Odd}
 use Rattle.lattice.proofs.Numbers.{points-length}
-use Rattle.order.specs.Keys.{MarkedTo}
+use Rattle.order.specs.Keys.{MarkedTo, Measured}
 use Rattle.order.proofs.Finding.{finds-odd, finds-many, finds-outside, marks, finds-repeat, finds-all, finds-as}
 use Rattle.order.proofs.find.Statement.{statement}
 use Rattle.order.proofs.find.Tie as tie
@@ -40,9 +40,12 @@ few c = omega (arith, points-length (list-of c), c .if2 .left)
 even : (c : tie.Else2) → Odd (list-of c) → ⊥
 even c = c .before .if1 .left
 
+measured : (c : tie.Else2) → Measured (list-of c)
+measured c = (even c, few c)
+
 mark-requires : tie.Need-mark-requires
 mark-requires c κs = let s = c .before .before .before .before .before .before in
-    (few (c .before), s .pre .0 (few (c .before)))
+    (few (c .before), s .pre .0 (measured (c .before)))
 
 declined-requires-3 : tie.Need-declined-requires-3
 declined-requires-3 c κs = search needs
@@ -76,7 +79,7 @@ marked c =
     subst (MarkedTo (list-at c) (words-at c)) e (m .ensures)
 
 wide : (c : tie.Else3) → length (points (list-at c)) ≤ length (words-at c)
-wide c = omega (arith, c .before .before .before .mark .kept, c .before .before .before .before .before .before .before .before .before .before .pre .0 (few (c .before .before .before .before .before)))
+wide c = omega (arith, c .before .before .before .mark .kept, c .before .before .before .before .before .before .before .before .before .before .pre .0 (measured (c .before .before .before .before .before)))
 
 -- as many words are handed on as there are points
 long : (c : tie.Else3) → length (take (count c) (words-at c)) ≡ count c
@@ -89,8 +92,8 @@ space : (c : tie.Else3) → let s = c .before .before .before .before .before .b
     (count c ≤ length (now (s .args .sorted))) × (count c ≤ length (now (s .args .keys)))
 space c =
     let s = c .before .before .before .before .before .before .before .before .before .before in (
-      omega (arith, points-length (list-at c), s .pre .1 (few (past c))),
-      omega (arith, points-length (list-at c), s .pre .2 (few (past c))),
+      omega (arith, points-length (list-at c), s .pre .1 (measured (past c))),
+      omega (arith, points-length (list-at c), s .pre .2 (measured (past c))),
     )
 
 slice-relend-prefix-arrange : tie.Need-slice-relend-prefix-arrange
