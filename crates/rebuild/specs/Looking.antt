@@ -1,15 +1,18 @@
 -- What is looked at before a point is written: lists in range, the first place with a fault, the shape of the corners. Assumes nothing.
 use mathlib.Core.Path.{_≡_}
 use mathlib.Core.List.{List, map}
-use Prim.Native.Nat.{ℕ, _-_, _≤_, _<_}
+use Prim.Native.Nat.{ℕ, _-_, _/_, _≤_, _<_}
 use lib.ListN.{length, getD, take}
 use lib.IntN.{ℤ, pos}
 use lib.Signed.{_<ℤ_}
-use Rattle.lattice.specs.Point.{Point, InRange, most, points, All, Before}
+use Rattle.lattice.specs.Point.{Point, InRange, most, points, point, All, Before}
 use Rattle.lattice.specs.Hull.{turn}
 use Rattle.lattice.specs.Refusal.{Table, accepted, Gives, AtPoint, Strays, OutOfRange, Misplaced}
-use Rattle.packed.specs.Packed.{unpacked}
+use Rattle.packed.specs.Packed.{side, packed, unpacked}
 use Rattle.order.specs.Keys.{Below}
+use Rattle.stretch.specs.Stretch.{StretchOf}
+use Rattle.stretch.specs.declared.Stretch.{Stretch}
+use Rattle.walk.specs.Walk.{Cornered}
 use Rattle.rebuild.specs.declared.Rebuilt.{Rebuilt}
 use Rattle.rebuild.specs.Rebuild.{resultRows, Outcome, pointRows}
 
@@ -39,6 +42,12 @@ pub record FirstBelow (n : ℕ) (P : ℕ → Type 0) (r : ℕ) : Type 0 where
   pub earlier : (j : ℕ) → j < r → P j → ⊥
   pub here : r < n → P r
 
+-- the first place from `begin` on at which P holds
+pub record FirstFrom (begin : ℕ) (P : ℕ → Type 0) (r : ℕ) : Type 0 where
+  pub from : begin ≤ r
+  pub earlier : (j : ℕ) → begin ≤ j → j < r → P j → ⊥
+  pub here : P r
+
 -- "first such point", "first that doesn't follow the one before", "first such point"
 abbrev pub FirstOutside : List ℤ → ℕ → Type 0
 FirstOutside list = FirstBelow (length (points list)) (AtPoint OutOfRange (points list))
@@ -46,8 +55,21 @@ FirstOutside list = FirstBelow (length (points list)) (AtPoint OutOfRange (point
 abbrev pub FirstStray : List ℤ → ℕ → Type 0
 FirstStray missing = FirstBelow (length (points missing)) (Strays (points missing))
 
+abbrev pub MisplacedAt : List ℕ → List ℤ → ℕ → Type 0
+MisplacedAt outline missing = AtPoint (Misplaced (map unpacked outline)) (points missing)
+
 abbrev pub FirstMisplaced : List ℕ → List ℤ → ℕ → Type 0
-FirstMisplaced outline missing = FirstBelow (length (points missing)) (AtPoint (Misplaced (map unpacked outline)) (points missing))
+FirstMisplaced outline missing = FirstBelow (length (points missing)) (MisplacedAt outline missing)
+
+-- the points from place `first` to place `last` are in row y of points in range, whose columns in the hull are those of the stretch
+pub record InOneRow (outline : List ℕ) (s : Stretch) (l : List Point) (first last : ℕ) : Type 0 where
+  pub cornered : Cornered outline
+  pub range : All InRange l
+  pub rising : first ≤ last
+  pub inside : last < length l
+  pub y : ℕ
+  pub stretch : StretchOf (map unpacked outline) y s
+  pub same : (j : ℕ) → first ≤ j → j ≤ last → packed (point l j) / side ≡ y
 
 -- the corner at a place
 abbrev pub at : List ℕ → ℕ → Point

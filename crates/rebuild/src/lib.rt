@@ -1,9 +1,11 @@
 // Rebuild: the way back, from corners and missing points to the points.
 ghost use mathlib.Core.Path.{_≡_};
+ghost use mathlib.Core.Bool.{true};
+ghost use mathlib.Core.Logic.{_⊎_};
 ghost use mathlib.Core.List.{map};
 ghost use Prim.Native.Nat.{_<_, _≤_, _/_};
 ghost use lib.ListN.{length};
-ghost use Rattle.lattice.specs.Point.{InRange, points, point, In, All};
+ghost use Rattle.lattice.specs.Point.{InRange, points, point, In, All, Pairs, Before};
 ghost use Rattle.lattice.specs.Hull.{CornerList};
 ghost use Rattle.lattice.specs.Refusal.{accepted, Misplaced, rebuildRows};
 ghost use Rattle.packed.specs.Packed.{Tells, side, cells, packed as packedOf, unpacked};
@@ -11,7 +13,7 @@ ghost use Rattle.order.specs.Keys.{Below};
 ghost use Rattle.stretch.specs.Stretch.{StretchOf, Peak};
 ghost use Rattle.walk.specs.Walk.{Cornered, Walked};
 ghost use Rattle.rebuild.specs.Rebuild.{inputRows, RebuildPromise};
-ghost use Rattle.rebuild.specs.Looking.{Taken, Behind, Resulting, Looks, FirstOutside, FirstStray, FirstMisplaced, Outlines, Follows};
+ghost use Rattle.rebuild.specs.Looking.{Taken, Behind, Resulting, Looks, FirstFrom, FirstOutside, FirstStray, FirstMisplaced, MisplacedAt, InOneRow, Outlines, Follows};
 use stretch::Crossing;
 use stretch::Stretch;
 
@@ -35,8 +37,43 @@ fn key_at(list: &[i32], i: usize) -> u32
     packed::packed(x, y)
 }
 
-// The first point that is out of range; how many points there are if none is.
+// Whether both tests passed: a loop that keeps its answer so has no branch, and goes through several points at once.
+fn both(a: bool, b: bool) -> bool
+    ensures { λ r. ⌜ Tells r ((a ≡ true) × (b ≡ true)) ⌝ }
+{
+    if b {
+        return a;
+    }
+    false
+}
+
+// Whether all points are in range.
+fn all_inside(list: &[i32]) -> bool
+    ensures { λ r. ⌜ Tells r (All InRange (points (now (list .entry)))) ⌝ }
+{
+    let n = list.len() / 2;
+    let mut good = true;
+    let mut i: usize = 0;
+    while i < n {
+        let x = list[2 * i];
+        let y = list[2 * i + 1];
+        good = both(good, packed::in_range(x, y));
+        i += 1;
+    }
+    good
+}
+
+// The first point that is out of range; how many points there are if none is. Where none is, the test of all tells so sooner.
 fn first_outside(list: &[i32]) -> usize
+    ensures { λ r. ⌜ FirstOutside (now (list .entry)) r ⌝ }
+{
+    if all_inside(list) {
+        return list.len() / 2;
+    }
+    find_outside(list)
+}
+
+fn find_outside(list: &[i32]) -> usize
     ensures { λ r. ⌜ FirstOutside (now (list .entry)) r ⌝ }
 {
     let n = list.len() / 2;
@@ -104,8 +141,33 @@ fn is_corner_list(outline: &[u32]) -> bool
     true
 }
 
+// Whether each missing point follows the one before.
+fn all_follow(missing: &[i32]) -> bool
+    requires { ⌜ All InRange (points (now missing)) ⌝ }
+    ensures { λ r. ⌜ Tells r (Pairs Before (points (now (missing .entry)))) ⌝ }
+{
+    let n = missing.len() / 2;
+    let mut good = true;
+    let mut i: usize = 0;
+    while i + 1 < n {
+        good = both(good, key_at(missing, i) < key_at(missing, i + 1));
+        i += 1;
+    }
+    good
+}
+
 // The first missing point that does not follow the one before; how many there are if each does.
 fn first_stray(missing: &[i32]) -> usize
+    requires { ⌜ All InRange (points (now missing)) ⌝ }
+    ensures { λ r. ⌜ FirstStray (now (missing .entry)) r ⌝ }
+{
+    if all_follow(missing) {
+        return missing.len() / 2;
+    }
+    find_stray(missing)
+}
+
+fn find_stray(missing: &[i32]) -> usize
     requires { ⌜ All InRange (points (now missing)) ⌝ }
     ensures { λ r. ⌜ FirstStray (now (missing .entry)) r ⌝ }
 {
@@ -137,21 +199,18 @@ fn is_corner(outline: &[u32], k: u32) -> bool
     false
 }
 
-// The columns of row y that lie in the hull, where those of another row are known; rows before the first corner and behind the last have none.
-fn stretch_of(outline: &[u32], peak: usize, known: u32, crossing: Crossing, y: u32) -> Crossing
-    requires { ⌜ Cornered (now outline) × Peak (now outline) peak × StretchOf (map unpacked (now outline)) known (crossing .stretch) × (y < side) ⌝ }
+// The columns of row y that lie in the hull; rows before the first corner and behind the last have none.
+fn stretch_of(outline: &[u32], peak: usize, near: Crossing, y: u32) -> Crossing
+    requires { ⌜ Cornered (now outline) × Peak (now outline) peak × (y < side) ⌝ }
     ensures { λ r. ⌜ StretchOf (map unpacked (now (outline .entry))) y (r .stretch) ⌝ }
 {
-    if y == known {
-        return crossing;
-    }
     if y < outline[0] / SIDE {
         return stretch::start();
     }
     if outline[peak] / SIDE < y {
         return stretch::start();
     }
-    stretch::of_next(outline, peak, y, crossing)
+    stretch::of_next(outline, peak, y, near)
 }
 
 // Whether a packed point is outside the corners' hull, or is a corner: only the ends of a row's stretch can be one.
@@ -175,20 +234,40 @@ fn is_misplaced(outline: &[u32], stretch: Stretch, k: u32) -> bool
     false
 }
 
-// The first missing point that is misplaced; how many there are if none is. Each row's stretch is looked for once.
-fn misplaced_by_rows(outline: &[u32], peak: usize, missing: &[i32]) -> usize
-    requires { ⌜ Cornered (now outline) × Peak (now outline) peak × All InRange (points (now missing)) ⌝ }
-    ensures { λ r. ⌜ FirstMisplaced (now (outline .entry)) (now (missing .entry)) r ⌝ }
+// Whether the first or the last of a row's points is misplaced: if neither is, none between them is.
+fn ends_misplaced(
+    outline: &[u32],
+    stretch: Stretch,
+    missing: &[i32],
+    first: usize,
+    last: usize,
+) -> bool
+    requires { ⌜ InOneRow (now outline) stretch (points (now missing)) first last ⌝ }
+    ensures { λ r. ⌜ Tells r (MisplacedAt (now (outline .entry)) (now (missing .entry)) first ⊎ MisplacedAt (now (outline .entry)) (now (missing .entry)) last) ⌝ }
 {
-    let n = missing.len() / 2;
-    let mut y = outline[0] / SIDE;
-    let mut crossing = stretch::of_next(outline, peak, y, stretch::start());
-    let mut i: usize = 0;
-    while i < n {
-        let k = key_at(missing, i);
-        crossing = stretch_of(outline, peak, y, crossing, k / SIDE);
-        y = k / SIDE;
-        if is_misplaced(outline, crossing.stretch, k) {
+    if is_misplaced(outline, stretch, key_at(missing, first)) {
+        return true;
+    }
+    if first == last {
+        return false;
+    }
+    is_misplaced(outline, stretch, key_at(missing, last))
+}
+
+// The first of a row's points that is misplaced, where its first or its last is.
+fn misplaced_in_row(
+    outline: &[u32],
+    stretch: Stretch,
+    missing: &[i32],
+    first: usize,
+    last: usize,
+) -> usize
+    requires { ⌜ InOneRow (now outline) stretch (points (now missing)) first last × (MisplacedAt (now outline) (now missing) first ⊎ MisplacedAt (now outline) (now missing) last) ⌝ }
+    ensures { λ r. ⌜ FirstFrom first (MisplacedAt (now (outline .entry)) (now (missing .entry))) r ⌝ }
+{
+    let mut i: usize = first;
+    while i < last {
+        if is_misplaced(outline, stretch, key_at(missing, i)) {
             return i;
         }
         i += 1;
@@ -196,9 +275,30 @@ fn misplaced_by_rows(outline: &[u32], peak: usize, missing: &[i32]) -> usize
     i
 }
 
+// The first missing point that is misplaced; how many there are if none is. Each row's stretch is looked for once.
+fn misplaced_by_rows(outline: &[u32], peak: usize, missing: &[i32]) -> usize
+    requires { ⌜ Cornered (now outline) × Peak (now outline) peak × All InRange (points (now missing)) × Pairs Before (points (now missing)) ⌝ }
+    ensures { λ r. ⌜ FirstMisplaced (now (outline .entry)) (now (missing .entry)) r ⌝ }
+{
+    let n = missing.len() / 2;
+    let mut crossing = stretch::start();
+    let mut i: usize = 0;
+    while i < n {
+        let k = key_at(missing, i);
+        crossing = stretch_of(outline, peak, crossing, k / SIDE);
+        let stretch = crossing.stretch;
+        let end = walk::end_of_row(missing, packed::row(k), i);
+        if ends_misplaced(outline, stretch, missing, i, end - 1) {
+            return misplaced_in_row(outline, stretch, missing, i, end - 1);
+        }
+        i = end;
+    }
+    i
+}
+
 // The first missing point that is outside the corners' hull or is a corner; how many there are if none is.
 fn first_misplaced(outline: &[u32], missing: &[i32]) -> usize
-    requires { ⌜ Cornered (now outline) × All InRange (points (now missing)) ⌝ }
+    requires { ⌜ Cornered (now outline) × All InRange (points (now missing)) × Pairs Before (points (now missing)) ⌝ }
     ensures { λ r. ⌜ FirstMisplaced (now (outline .entry)) (now (missing .entry)) r ⌝ }
 {
     if outline.len() == 0 {

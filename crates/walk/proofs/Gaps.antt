@@ -2,22 +2,24 @@
 use mathlib.Core.Path.{_≡_, refl, sym, _∙_, ap, subst}
 use mathlib.Core.Logic.{_⊎_, inl, inr}
 use mathlib.Core.List.{List, [], _∷_, _++_}
-use Prim.Native.Nat.{ℕ, _+_, _*_, _≤_, _<_}
+use Prim.Native.Nat.{ℕ, zero, suc, _+_, _-_, _*_, _≤_, _<_}
 use native.Mathlib.Omega.{arith}
 use borrow.Author.Count.{below-more}
+use borrow.Rule.Slice.PartMut.{putMid}
 use lib.ListN.{length, set, length-append}
 use lib.IntN.{ℤ}
 use Rattle.lattice.specs.Point.{Point, points, point, In, Before, column, Lists}
 use Rattle.lattice.proofs.Lists.{either}
 use Rattle.lattice.proofs.Places.{lt-or-le, nowhere, place-in, in-place}
-use Rattle.lattice.proofs.Rooms.{holding-length, holding-next}
+use Rattle.lattice.proofs.Rooms.{holding-next}
 use Rattle.lattice.proofs.RowLists.{lists-fewer}
 use Rattle.lattice.proofs.SameMembers.{lists-same, lists-one, lists-append}
-use Rattle.packed.specs.Packed.{placed}
+use Rattle.packed.specs.Packed.{side, placed}
 use Rattle.packed.proofs.RowOrder.{placed-order, placed-injective}
 use Rattle.stretch.specs.Stretch.{cell, Within}
 use Rattle.stretch.specs.declared.Stretch.{Stretch}
-use Rattle.walk.specs.Walk.{columnAt, RowPoints, Gap, Takes, Puts}
+use Rattle.walk.specs.Walk.{columnAt, RowPoints, Neighbour, Gap, Across, Takes, Puts}
+use Rattle.walk.proofs.Lending.{rest, puts-length, puts-used, rest-takes, puts-then}
 
 -- the i-th point of the row is in column x
 abbrev pub Held : List ℤ → ℕ → ℕ → Type 0
@@ -59,6 +61,42 @@ module _ (row : List ℤ) (s : Stretch) (y : ℕ) where
   pub gap-before : (x : ℕ) (p q : Point) → Gap row (until s x) y p → q ≡ cell x y → Before p q
   gap-before x p q g e =
       subst (Before p) (sym e) (subst (λ r. Before r (cell x y)) (sym (g .here)) (column refl (placed-order (g .column) x (g .within .to))))
+
+-- ---- all columns of a stretch
+-- a row without points
+pub no-points : (s : Stretch) (y : ℕ) → s .from ≤ s .to → s .to ≤ side → RowPoints [] s y
+no-points s y u v = record { rising = u; few = v; here = λ i l. nowhere i l; within = λ i l. nowhere i l; rises = λ i j l m. nowhere j m }
+
+-- as many as it is wide
+columns-from : (from n y : ℕ) → (l : List Point) × Lists (Across (record { from = from; to = from + n }) y) l × (length l ≡ n)
+columns-from from zero y = ([], record { every = λ p g. none (g .within); only = λ p m. absurd m; order = tt }, refl)
+  where
+    none : {n : ℕ} → Within (record { from = from; to = from + 0 }) n → ⊥
+    none w = omega (arith, w .from, w .to)
+columns-from from (suc n) y =
+    let r = columns-from from n y in (
+      r .0 ++ cell (from + n) y ∷ [],
+      subst (λ m. Lists (Gap [] (record { from = from; to = m }) y) (r .0 ++ cell (from + n) y ∷ [])) (next n)
+          (lists-append (Gap [] (until s (from + n)) y) (λ p. p ≡ cell (from + n) y) (Gap [] (until s (from + n + 1)) y) (gap-split [] s y (from + n))
+          (gap-wider [] s y (from + n) (from + n + 1) (omega arith)) (λ p e. subst (Gap [] (until s (from + n + 1)) y) (sym e) gap)
+          (gap-before [] s y (from + n)) (r .0) (cell (from + n) y ∷ []) (r .1) (lists-one (cell (from + n) y))),
+      omega (arith, r .2, length-append (r .0) (cell (from + n) y ∷ [])),
+    )
+  where
+    s : Stretch
+    s = record { from = from; to = 0 }
+
+    next : (n : ℕ) → from + n + 1 ≡ from + suc n
+    next n = omega arith
+
+    gap : Gap [] (record { from = from; to = from + n + 1 }) y (cell (from + n) y)
+    gap = record { column = from + n; within = record { from = omega arith; to = omega arith }; here = refl; lacks = λ m. m }
+
+pub columns-listed : (s : Stretch) (y : ℕ) → s .from ≤ s .to → (l : List Point) × Lists (Across s y) l × (length l ≡ s .to - s .from)
+columns-listed s y u =
+    let e : s .from + (s .to - s .from) ≡ s .to = omega (arith, u) in
+    let r = columns-from (s .from) (s .to - s .from) y in
+    (r .0, subst (λ n. Lists (Across (record { from = s .from; to = n }) y) (r .0)) e (r .1), r .2)
 
 -- ---- the columns gone through
 module _ (row : List ℤ) (s : Stretch) (y : ℕ) (h : RowPoints row s y) where
@@ -103,6 +141,34 @@ module _ (row : List ℤ) (s : Stretch) (y : ℕ) (h : RowPoints row s y) where
           let e = column-is (r .0) x (r .1) in
           either (lt-or-le (r .0) i) (λ l. omega (arith, e, p .before (r .0) l)) (λ l. omega (arith, e, beyond (r .0) l (r .1 .0)))
 
+  pub no-fall : (i j : ℕ) → i ≤ j → j < length (points row) → columnAt row i ≤ columnAt row j
+  no-fall i j u v =
+      either (lt-or-le i j) (λ l. omega (arith, h .rises i j l v)) (λ l. let e : i ≡ j = omega arith in omega (arith, ap (columnAt row) e))
+
+  -- columns rise by one a place at least
+  rise-by : (i k : ℕ) → i + k < length (points row) → columnAt row i + k ≤ columnAt row (i + k)
+  rise-by i zero l = let e : i + 0 ≡ i = omega arith in omega (arith, ap (columnAt row) e)
+  rise-by i (suc k) l = omega (arith, rise-by i k (omega arith), h .rises (i + k) (i + suc k) (omega arith) l)
+
+  -- between neighbours the row has a point in every column
+  between-neighbours : (i r : ℕ) → Neighbour row i r → (n : ℕ) → columnAt row i ≤ n → n ≤ columnAt row r → In (cell n y) (points row)
+  between-neighbours i r b n u v =
+      let k = n - columnAt row i in
+      let l : i + k ≤ r = omega (arith, b .behind, b .from, u, v) in
+      let m : i + k < length (points row) = omega (arith, l, b .upto) in
+      let e : i + k + (r - (i + k)) ≡ r = omega (arith, l) in
+      let a = rise-by i k m in
+      let d = rise-by (i + k) (r - (i + k)) (omega (arith, e, b .upto)) in
+      held-in (i + k) n (is-column (i + k) n m (omega (arith, a, d, ap (columnAt row) e, b .behind, l, u)))
+
+  passed-neighbours : (i r : ℕ) → Neighbour row i r → Passed row (columnAt row r + 1) (r + 1)
+  passed-neighbours i r b = record {
+    upto = omega (arith, b .upto);
+    before = λ j u. either (lt-or-le j r) (λ l. omega (arith, h .rises j r l (b .upto)))
+        (λ l. let e : j ≡ r = omega arith in omega (arith, ap (columnAt row) e));
+    after = λ j u v. omega (arith, h .rises r j (omega arith) v);
+  }
+
   pub gapping-none : (room : List ℤ) → Gapping row s y (s .from) 0 0 room room
   gapping-none room = record {
     from = omega arith;
@@ -115,21 +181,6 @@ module _ (row : List ℤ) (s : Stretch) (y : ℕ) (h : RowPoints row s y) where
       none w = omega (arith, w .from, w .to)
 
   module _ (x i used : ℕ) (room₀ room : List ℤ) (g : Gapping row s y x i used room₀ room) where
-    pub gapping-held : x < s .to → Held row i x → Gapping row s y (x + 1) (i + 1) used room₀ room
-    gapping-held u e = record {
-      from = omega (arith, g .from);
-      to = omega arith;
-      passed = passed-held x i (g .passed) e;
-      puts = (
-        g .puts .0,
-        lists-same (Gap row (until s x) y) (Gap row (until s (x + 1)) y) (gap-wider row s y x (x + 1) (omega arith))
-            (λ p k. either (gap-split row s y x p k) (λ q. q) (λ q. absurd (k .lacks (subst (λ r. In r (points row)) (sym q) (held-in i x e)))))
-            (g .puts .0) (g .puts .1),
-        g .puts .2,
-        g .puts .3,
-      );
-    }
-
     module _ (u : x < s .to) (n : Held row i x → ⊥) where
       gap : Gap row (until s (x + 1)) y (cell x y)
       gap = record { column = x; within = record { from = g .from; to = omega arith }; here = refl; lacks = gap-here x i (g .passed) n }
@@ -164,15 +215,93 @@ module _ (row : List ℤ) (s : Stretch) (y : ℕ) (h : RowPoints row s y) where
         );
       }
 
+    until-gap : (p : Point) → Gap row (until s x) y p → Gap row s y p
+    until-gap = gap-wider row s y x (s .to) (g .to)
+
     pub gapping-length : Takes (Gap row s y) room₀ → length room ≡ length room₀
-    gapping-length t =
-        ap length (g .puts .3)
-        ∙ holding-length (g .puts .0) room₀ (omega (
-          arith,
-          lists-fewer (Gap row (until s x) y) (Gap row s y) (gap-wider row s y x (s .to) (g .to)) (g .puts .0) (t .0) (g .puts .1) (t .1),
-          t .2,
-        ))
+    gapping-length t = puts-length (Gap row (until s x) y) (Gap row s y) until-gap room₀ t used room (g .puts)
+
+    pub gapping-used : Takes (Gap row s y) room₀ → 2 * used ≤ length room
+    gapping-used t = puts-used (Gap row (until s x) y) (Gap row s y) until-gap room₀ t used room (g .puts)
 
     pub gapping-ends : s .to ≤ x → Puts (Gap row s y) room₀ used room
     gapping-ends u = let e : x ≡ s .to = omega (arith, g .to) in
         subst (λ n. Puts (Gap row (until s n) y) room₀ used room) e (g .puts)
+
+    -- past neighbours, of which the first is in column x and the last in column n
+    module _ (r n : ℕ) (b : Neighbour row i r) (e : x ≡ columnAt row i) (f : n ≡ columnAt row r) where
+      wide : x ≤ n + 1
+      wide = omega (arith, e, f, b .behind)
+
+      narrower : (p : Point) → Gap row (until s (n + 1)) y p → Gap row (until s x) y p
+      narrower p k =
+          either (lt-or-le (k .column) x)
+          (λ l. record { column = k .column; within = record { from = k .within .from; to = l }; here = k .here; lacks = k .lacks })
+          (λ l. absurd (k .lacks (subst (λ q. In q (points row)) (sym (k .here)) (between-neighbours i r b (k .column) (omega (arith, e, l)) (omega (arith, f, k .within .to))))))
+
+      pub gapping-neighbours : Gapping row s y (n + 1) (r + 1) used room₀ room
+      gapping-neighbours = record {
+        from = omega (arith, g .from, wide);
+        to = omega (arith, f, h .within r (b .upto) .to);
+        passed = subst (λ m. Passed row (m + 1) (r + 1)) (sym f) (passed-neighbours i r b);
+        puts = (
+          g .puts .0,
+          lists-same (Gap row (until s x) y) (Gap row (until s (n + 1)) y) (gap-wider row s y x (n + 1) wide) narrower (g .puts .0) (g .puts .1),
+          g .puts .2,
+          g .puts .3,
+        );
+      }
+
+    -- all columns from x to c, before which the row has no point more
+    module _ (t : Takes (Gap row s y) room₀) (c : ℕ) (u : x ≤ c) (v : c ≤ s .to) (clear : (j : ℕ) → i ≤ j → j < length (points row) → c ≤ columnAt row j) where
+      abbrev between : Stretch
+      between = record { from = x; to = c }
+
+      lacks-between : (n : ℕ) → Within between n → In (cell n y) (points row) → ⊥
+      lacks-between n w m =
+          let r = in-held n m in
+          let e = column-is (r .0) n (r .1) in
+          either (lt-or-le (r .0) i) (λ l. omega (arith, e, g .passed .before (r .0) l, w .from)) (λ l. omega (arith, e, clear (r .0) l (r .1 .0), w .to))
+
+      split : (p : Point) → Gap row (until s c) y p → Gap row (until s x) y p ⊎ Across between y p
+      split p k =
+          either (lt-or-le (k .column) x)
+          (λ l. inl record { column = k .column; within = record { from = k .within .from; to = l }; here = k .here; lacks = k .lacks })
+          (λ l. inr record { column = k .column; within = record { from = l; to = k .within .to }; here = k .here; lacks = λ m. m })
+
+      inside : (p : Point) → Across between y p → Gap row (until s c) y p
+      inside p k = record {
+        column = k .column;
+        within = record { from = omega (arith, g .from, k .within .from); to = k .within .to };
+        here = k .here;
+        lacks = λ m. lacks-between (k .column) (k .within) (subst (λ q. In q (points row)) (k .here) m);
+      }
+
+      in-order : (p q : Point) → Gap row (until s x) y p → Across between y q → Before p q
+      in-order p q k l =
+          subst (Before p) (sym (l .here)) (subst (λ r. Before r (cell (l .column) y)) (sym (k .here))
+          (column refl (placed-order (k .column) (l .column) (omega (arith, k .within .to, l .within .from)))))
+
+      join : (m : List Point) → Lists (Across between y) m → Lists (Gap row (until s c) y) (g .puts .0 ++ m)
+      join m l =
+          lists-append (Gap row (until s x) y) (Across between y) (Gap row (until s c) y) split (gap-wider row s y x c u) inside in-order
+          (g .puts .0) m (g .puts .1) l
+
+      pub gapping-rest : 2 * (c - x) ≤ length (rest room (2 * used))
+      gapping-rest =
+          let r = columns-listed between y u in
+          omega (
+            arith,
+            rest-takes (Gap row (until s x) y) (Gap row s y) until-gap room₀ t used room (g .puts) (Across between y) (Gap row (until s c) y) join
+                (gap-wider row s y c (s .to) v) (r .0) (r .1),
+            r .2,
+          )
+
+      pub gapping-fill : (r : ℕ) (back : List ℤ) → Puts (Across between y) (rest room (2 * used)) r back
+          → Gapping row s y c i (used + r) room₀ (putMid (2 * used) (length room - 2 * used) room back)
+      gapping-fill r back p = record {
+        from = omega (arith, g .from);
+        to = v;
+        passed = record { upto = g .passed .upto; before = λ j l. omega (arith, g .passed .before j l); after = clear };
+        puts = puts-then (Gap row (until s x) y) (Gap row s y) until-gap room₀ t used room (g .puts) (Across between y) (Gap row (until s c) y) join r back p;
+      }

@@ -1,19 +1,15 @@
 -- What the loops over the rows of a hull have done before row y: counted, written, looked for. Assumes nothing.
 use mathlib.Core.Path.{_≡_, refl, sym, _∙_, ap, subst}
-use mathlib.Core.List.{List, [], _++_, map, append-nil}
+use mathlib.Core.List.{List, [], _++_, map}
 use Prim.Native.Nat.{ℕ, _+_, _-_, _*_, _/_, _%_, _≤_, _<_}
 use native.Mathlib.Omega.{arith}
 use borrow.Rule.Slice.PartMut.{putMid}
-use lib.ListN.{length, getD, take, drop, length-append, length-drop, drop-of-length-le}
-use lib.Seq.{take-all}
+use lib.ListN.{length, getD, length-append}
 use lib.IntN.{ℤ}
 use lib.Signed.{_≤ℤ_, _<ℤ_}
 use Rattle.lattice.specs.Point.{Point, points, point, In, Lists}
-use Rattle.lattice.specs.Room.{holding}
 use Rattle.lattice.proofs.Lists.{either}
 use Rattle.lattice.proofs.Places.{lt-or-le, nowhere, all-place}
-use Rattle.lattice.proofs.RowLists.{lists-fewer}
-use Rattle.lattice.proofs.Rooms.{holding-length, holding-then}
 use Rattle.lattice.proofs.SameMembers.{lists-same}
 use Rattle.packed.specs.Packed.{side, cells, placed, unpacked}
 use Rattle.packed.proofs.RowOrder.{placed-injective, placed-order}
@@ -21,16 +17,10 @@ use Rattle.order.specs.Row.{Holds, LeadsTo}
 use Rattle.stretch.specs.Stretch.{cell, StretchOf, Peak}
 use Rattle.stretch.specs.declared.Stretch.{Stretch}
 use Rattle.walk.specs.Walk.{HullOf, Cornered, Walked, Lacking, CountOf, FirstOf, Takes, Puts, Gap}
-use Rattle.walk.proofs.Rows.{part, row-next, holds-leads}
-use Rattle.walk.proofs.Gaps.{Held, Passed, passed-none, passed-held, held-in, gap-here}
-use Rattle.walk.proofs.Walking.{firstRow, lastRow, some, Upto, upto-none, upto-all, upto-more, in-rows, last-row, row-is, gap-lacking, lacking-gap, gaps-exist, columns-listed}
-
--- the packed point of a cell
-at-cell : (x y : ℕ) → x < side → unpacked (side * y + x) ≡ cell x y
-at-cell x y h =
-    let e : (side * y + x) % side ≡ x = omega arith in
-    let f : (side * y + x) / side ≡ y = omega arith in
-    λ i. record { x = placed (e i); y = placed (f i) }
+use Rattle.walk.proofs.Rows.{at-cell, part, row-next, holds-leads}
+use Rattle.walk.proofs.Lending.{rest, puts-length, puts-used, rest-takes, puts-then}
+use Rattle.walk.proofs.Gaps.{Held, Passed, passed-none, passed-held, held-in, gap-here, columns-listed}
+use Rattle.walk.proofs.Walking.{firstRow, lastRow, some, Upto, upto-none, upto-all, upto-more, in-rows, last-row, row-is, gap-lacking, lacking-gap, gaps-exist}
 
 -- row y is one of the hull's, or the one after the last
 pub record Between (corners : List ℕ) (last y : ℕ) : Type 0 where
@@ -94,14 +84,13 @@ module _ (corners : List ℕ) (h : Cornered corners) (peak : ℕ) (g : Peak corn
   module _ (y total : ℕ) (d : Counted corners (lastRow corners peak) y total) where
     pub counted-more : y ≤ (lastRow corners peak) → (s : Stretch) → StretchOf (map unpacked corners) y s → Counted corners (lastRow corners peak) (y + 1) (total + (s .to - s .from))
     counted-more u s f =
-        let e : s .from + (s .to - s .from) ≡ s .to = omega (arith, f .rising) in
-        let r = columns-listed (s .from) (s .to - s .from) y in
+        let r = columns-listed s y (f .rising) in
         record {
           between = between-next corners [] alone peak g y (d .between) u;
           count = (
             d .count .0 ++ r .0,
             upto-more (Lacking corners []) y (Gap [] s y) (gap-lacking corners [] alone y 0 0 s f (none-held y)) (lacking-gap corners [] alone y 0 0 s f (none-held y))
-                (d .count .0) (r .0) (d .count .1) (subst (λ n. Lists (Gap [] (record { from = s .from; to = n }) y) (r .0)) e (r .1)),
+                (d .count .0) (r .0) (d .count .1) (r .1),
             omega (arith, d .count .2, r .2, length-append (d .count .0) (r .0)),
           );
           small = omega (arith, d .small, f .few);
@@ -116,16 +105,6 @@ module _ (corners : List ℕ) (h : Cornered corners) (peak : ℕ) (g : Peak corn
     )
 
 -- ---- written
--- the rest of a room from place n on, lent on and given back
-module _ (room : List ℤ) (n : ℕ) where
-  pub rest-lent : take (length room - n) (drop n room) ≡ drop n room
-  rest-lent = take-all (length room - n) (drop n room) (omega (arith, length-drop n room))
-
-  pub rest-back : (rest : List ℤ) → putMid n (length room - n) room rest ≡ take n room ++ rest
-  rest-back rest =
-      ap (λ m. take n room ++ (rest ++ m)) (drop-of-length-le (drop n room) {i = length room - n} (omega (arith, length-drop n room)))
-      ∙ ap (λ m. take n room ++ m) (append-nil rest)
-
 pub record Written (corners : List ℕ) (list : List ℤ) (last y begin used : ℕ) (room₀ room : List ℤ) : Type 0 where
   pub between : Between corners last y
   pub leads : LeadsTo (points list) (placed y) begin
@@ -148,23 +127,14 @@ module _ (corners : List ℕ) (list : List ℤ) (w : Walked corners list) (peak 
   }
 
   module _ (room₀ : List ℤ) (t : Takes (Lacking corners list) room₀) (y begin used : ℕ) (room : List ℤ) (d : Written corners list (lastRow corners peak) y begin used room₀ room) where
+    upto-lacking : (p : Point) → Upto (Lacking corners list) y p → Lacking corners list p
+    upto-lacking p u = u .0
+
     pub written-length : length room ≡ length room₀
-    written-length =
-        ap length (d .puts .3)
-        ∙ holding-length (d .puts .0) room₀ (omega (
-          arith,
-          lists-fewer (Upto (Lacking corners list) y) (Lacking corners list) (λ p u. u .0) (d .puts .0) (t .0) (d .puts .1) (t .1),
-          t .2,
-        ))
+    written-length = puts-length (Upto (Lacking corners list) y) (Lacking corners list) upto-lacking room₀ t used room (d .puts)
 
     pub written-used : 2 * used ≤ length room
-    written-used = omega (
-      arith,
-      lists-fewer (Upto (Lacking corners list) y) (Lacking corners list) (λ p u. u .0) (d .puts .0) (t .0) (d .puts .1) (t .1),
-      t .2,
-      d .puts .2,
-      written-length,
-    )
+    written-used = puts-used (Upto (Lacking corners list) y) (Lacking corners list) upto-lacking room₀ t used room (d .puts)
 
     module _ (u : y ≤ (lastRow corners peak)) (s : Stretch) (f : StretchOf (map unpacked corners) y s) (end : ℕ) (k : Holds (points list) (placed y) begin end) where
       more : (m : List Point) → Lists (Gap (part list begin end) s y) m → Lists (Upto (Lacking corners list) (y + 1)) (d .puts .0 ++ m)
@@ -173,37 +143,22 @@ module _ (corners : List ℕ) (list : List ℤ) (w : Walked corners list) (peak 
           (lacking-gap corners list w y begin end s f k) (d .puts .0) m (d .puts .1) l
 
       -- the rest of the room has place for the row's
-      pub written-room : Takes (Gap (part list begin end) s y) (take (length room - 2 * used) (drop (2 * used) room))
+      pub written-room : Takes (Gap (part list begin end) s y) (rest room (2 * used))
       written-room =
-          let m = gaps-exist corners list w y begin end s f k in
-          subst (Takes (Gap (part list begin end) s y)) (sym (rest-lent room (2 * used))) (
+          let m = gaps-exist corners list w y begin end s f k in (
             m .0,
             m .1,
-            omega (
-              arith,
-              lists-fewer (Upto (Lacking corners list) (y + 1)) (Lacking corners list) (λ p u. u .0) (d .puts .0 ++ m .0) (t .0) (more (m .0) (m .1)) (t .1),
-              length-append (d .puts .0) (m .0),
-              t .2,
-              d .puts .2,
-              length-drop (2 * used) room,
-              written-length,
-            ),
+            rest-takes (Upto (Lacking corners list) y) (Lacking corners list) upto-lacking room₀ t used room (d .puts)
+                (Gap (part list begin end) s y) (Upto (Lacking corners list) (y + 1)) more (λ p u. u .0) (m .0) (m .1),
           )
 
-      pub written-more : (r : ℕ) (rest : List ℤ) → Puts (Gap (part list begin end) s y) (take (length room - 2 * used) (drop (2 * used) room)) r rest
-          → Written corners list (lastRow corners peak) (y + 1) end (used + r) room₀ (putMid (2 * used) (length room - 2 * used) room rest)
-      written-more r rest p = record {
+      pub written-more : (r : ℕ) (back : List ℤ) → Puts (Gap (part list begin end) s y) (rest room (2 * used)) r back
+          → Written corners list (lastRow corners peak) (y + 1) end (used + r) room₀ (putMid (2 * used) (length room - 2 * used) room back)
+      written-more r back p = record {
         between = between-next corners list w peak g y (d .between) u;
         leads = holds-leads (points list) y begin end k;
-        puts = (
-          d .puts .0 ++ p .0,
-          more (p .0) (p .1),
-          omega (arith, d .puts .2, p .2, length-append (d .puts .0) (p .0)),
-          rest-back room (2 * used) rest
-              ∙ ap (λ m. take (2 * used) room ++ m) (p .3 ∙ ap (holding (p .0)) (rest-lent room (2 * used)))
-              ∙ ap (λ m. take (2 * used) m ++ holding (p .0) (drop (2 * used) m)) (d .puts .3)
-              ∙ holding-then (d .puts .0) used (sym (d .puts .2)) room₀ (p .0),
-        );
+        puts = puts-then (Upto (Lacking corners list) y) (Lacking corners list) upto-lacking room₀ t used room (d .puts)
+            (Gap (part list begin end) s y) (Upto (Lacking corners list) (y + 1)) more r back p;
       }
 
     pub written-all : (lastRow corners peak) < y → Puts (Lacking corners list) room₀ used room

@@ -2,7 +2,7 @@
 use mathlib.Core.Path.{_≡_, sym, _∙_, ap, subst, subst₂}
 use mathlib.Core.Logic.{_⊎_, inl, inr}
 use mathlib.Core.List.{List, [], _∷_}
-use Prim.Native.Nat.{ℕ, _+_, _-_, _*_, _≤_, _<_}
+use Prim.Native.Nat.{ℕ, _+_, _-_, _*_, _/_, _%_, _≤_, _<_}
 use native.Mathlib.Omega.{arith}
 use borrow.Author.Count.{below-more}
 use lib.Dec.{eqb}
@@ -13,18 +13,19 @@ use lib.Signed.{_≤ℤ_, _<ℤ_}
 use mir.Syntax.{w32}
 use mir.Val.{SFits, ofZ}
 use Rattle.whole.proofs.Whole.{ring, quote, _≤ᶻ_, gap≤, gap<, _⊞_, _⋆≡_, linear≤, linear<, linear⊥, le-or-lt, antisymmetric, le-of-lt, le-of-equal}
-use Rattle.lattice.specs.Point.{Point, origin, InRange, points, point, In, Pairs, Before, row, column}
+use Rattle.lattice.specs.Point.{Point, origin, InRange, points, point, In, All, Pairs, Before, row, column}
 use Rattle.lattice.specs.Hull.{InHull, Of}
 use Rattle.lattice.proofs.Lists.{either}
 use Rattle.lattice.proofs.HalfPlane.{point-equal}
-use Rattle.lattice.proofs.Places.{lt-or-le, place-in, in-place, pairs-place}
+use Rattle.lattice.proofs.Places.{lt-or-le, place-in, in-place, place-all, pairs-place}
 use Rattle.lattice.proofs.Numbers.{points-at, points-drop, points-take}
-use Rattle.packed.specs.Packed.{Tells, moved, placed}
+use Rattle.packed.specs.Packed.{Tells, side, moved, placed, unpacked}
 use Rattle.packed.proofs.Border.{moved-small}
 use Rattle.packed.proofs.Reading.{column-at}
 use Rattle.packed.proofs.Tests.{tells-equal, tells-as}
-use Rattle.packed.proofs.RowOrder.{placed-moved, order-placed}
+use Rattle.packed.proofs.RowOrder.{placed-moved, order-placed, unpacked-in-range}
 use Rattle.order.specs.Row.{Holds, LeadsTo}
+use Rattle.order.proofs.RowLaws.{Running}
 use Rattle.stretch.specs.Stretch.{cell, StretchOf, Peak}
 use Rattle.stretch.specs.declared.Stretch.{Stretch}
 use Rattle.walk.specs.Walk.{Later, columnAt, RowPoints}
@@ -54,6 +55,40 @@ module _ (corners : List ℕ) where
 
     pub peaking-all : length corners ≤ i → Peak corners peak
     peaking-all l = record { inside = h .inside; greatest = λ j u. h .greatest j (omega arith) }
+
+-- ---- the end of a row
+rows-rise : (a b : Point) → Before a b → a .y ≤ℤ b .y
+rows-rise a b (row h) = le-of-lt h
+rows-rise a b (column e h) = le-of-equal e
+
+-- with a later point of row y all between are in it
+pub running-on : (l : List Point) (y : ℤ) (begin i r : ℕ) → Pairs Before l → Running l y begin i → (point l i) .y ≡ y
+    → i ≤ r → r < length l → (point l r) .y ≡ y → Running l y begin (r + 1)
+running-on l y begin i r order h e u v f = record {
+  from = omega (arith, h .from);
+  upto = omega arith;
+  within = λ j a b. either (lt-or-le j i) (λ k. h .within j a k) (λ k. antisymmetric
+      (subst (λ z. (point l j) .y ≤ℤ z) f (later j r (omega arith) v)) (subst (λ z. z ≤ℤ (point l j) .y) e (later i j k (omega arith))));
+}
+  where
+    later : (j k : ℕ) → j ≤ k → k < length l → (point l j) .y ≤ℤ (point l k) .y
+    later j k a b =
+        either (lt-or-le j k) (λ m. rows-rise (point l j) (point l k) (pairs-place Before l order j k m b))
+        (λ m. let d : j ≡ k = omega arith in le-of-equal (ap (λ n. (point l n) .y) d))
+
+-- the packed point of a cell
+pub at-cell : (x y : ℕ) → x < side → unpacked (side * y + x) ≡ cell x y
+at-cell x y h =
+    let e : (side * y + x) % side ≡ x = omega arith in
+    let f : (side * y + x) / side ≡ y = omega arith in
+    λ i. record { x = placed (e i); y = placed (f i) }
+
+cell-in-range : (x y : ℕ) → x < side → y < side → InRange (cell x y)
+cell-in-range x y u v = subst InRange (at-cell x y u) (unpacked-in-range (side * y + x) (omega arith))
+
+-- ---- the points of a row are in range
+pub row-in-range : (list : List ℤ) (s : Stretch) (y : ℕ) → RowPoints list s y → y < side → All InRange (points list)
+row-in-range list s y h l = place-all InRange (points list) (λ i m. subst InRange (sym (h .here i m)) (cell-in-range (columnAt list i) y (omega (arith, h .within i m .to, h .few)) l))
 
 -- ---- the point at a place is in a column, as the machine tests it
 pub tells-held : (list : List ℤ) (i : ℕ) (x : ℤ) → i < length (points list) → SFits w32 (column-at list i) → SFits w32 x

@@ -27,7 +27,6 @@ use Rattle.stretch.specs.Stretch.{cell, Within, StretchOf, Peak, Peaked}
 use Rattle.stretch.specs.declared.Stretch.{Stretch}
 use Rattle.walk.specs.Walk.{HullOf, Cornered, Walked, Lacking, RowPoints, Gap}
 use Rattle.walk.proofs.Rows.{part, part-in, in-part, in-cell, row-next, next-row, row-points}
-use Rattle.walk.proofs.Gaps.{until, gap-wider, gap-split, gap-before}
 
 -- ---- the points that have P in rows before y
 abbrev pub Upto : (Point → Type 0) → ℕ → Point → Type 0
@@ -158,29 +157,3 @@ module _ (corners : List ℕ) (list : List ℤ) (w : Walked corners list) (y beg
       let r = lists-exist (λ p. Lacking corners list p × (p .y ≡ placed y)) (λ p. both (kept? (map unpacked corners) (points list) p) (equal? (p .y) (placed y)))
       (map unpacked corners) (λ p h. h .0 .within) in
       (r .0, lists-same (λ p. Lacking corners list p × (p .y ≡ placed y)) (Gap rowOf s y) (λ p h. lacking-gap p (h .0) (h .1)) gap-lacking (r .0) (r .1))
-
--- ---- all columns of a stretch
--- as many as it is wide
-pub columns-listed : (from n y : ℕ) → (l : List Point) × Lists (Gap [] (record { from = from; to = from + n }) y) l × (length l ≡ n)
-columns-listed from zero y = ([], record { every = λ p g. none (g .within); only = λ p m. absurd m; order = tt }, refl)
-  where
-    none : {n : ℕ} → Within (record { from = from; to = from + 0 }) n → ⊥
-    none w = omega (arith, w .from, w .to)
-columns-listed from (suc n) y =
-    let r = columns-listed from n y in (
-      r .0 ++ cell (from + n) y ∷ [],
-      subst (λ m. Lists (Gap [] (record { from = from; to = m }) y) (r .0 ++ cell (from + n) y ∷ [])) (next n)
-          (lists-append (Gap [] (until s (from + n)) y) (λ p. p ≡ cell (from + n) y) (Gap [] (until s (from + n + 1)) y) (gap-split [] s y (from + n))
-          (gap-wider [] s y (from + n) (from + n + 1) (omega arith)) (λ p e. subst (Gap [] (until s (from + n + 1)) y) (sym e) gap)
-          (gap-before [] s y (from + n)) (r .0) (cell (from + n) y ∷ []) (r .1) (lists-one (cell (from + n) y))),
-      omega (arith, r .2, length-append (r .0) (cell (from + n) y ∷ [])),
-    )
-  where
-    s : Stretch
-    s = record { from = from; to = 0 }
-
-    next : (n : ℕ) → from + n + 1 ≡ from + suc n
-    next n = omega arith
-
-    gap : Gap [] (record { from = from; to = from + n + 1 }) y (cell (from + n) y)
-    gap = record { column = from + n; within = record { from = omega arith; to = omega arith }; here = refl; lacks = λ m. m }

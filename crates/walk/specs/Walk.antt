@@ -2,8 +2,8 @@
 -- grain, Rebuild the missing points. Assumes nothing.
 use mathlib.Core.Path.{_≡_}
 use mathlib.Core.Logic.{_⊎_}
-use mathlib.Core.List.{List, map}
-use Prim.Native.Nat.{ℕ, _*_, _≤_, _<_}
+use mathlib.Core.List.{List, [], map}
+use Prim.Native.Nat.{ℕ, _+_, _*_, _-_, _≤_, _<_}
 use lib.ListN.{length, getD}
 use lib.IntN.{ℤ}
 use Rattle.lattice.specs.Point.{Point, points, point, In, All, Pairs, Before, Lists}
@@ -66,9 +66,23 @@ pub record RowPoints (row : List ℤ) (s : Stretch) (y : ℕ) : Type 0 where
   pub within : (i : ℕ) → i < length (points row) → Within s (columnAt row i)
   pub rises : (i j : ℕ) → i < j → j < length (points row) → columnAt row i < columnAt row j
 
+-- the point at a place of a list is in row y
+abbrev pub InRow : List ℤ → ℤ → ℕ → Type 0
+InRow list y i = (i < length (points list)) × ((point (points list) i) .y ≡ y)
+
+-- r is a place of a row's list, not before i, and its point as many columns behind that at i as places
+pub record Neighbour (row : List ℤ) (i r : ℕ) : Type 0 where
+  pub from : i ≤ r
+  pub upto : r < length (points row)
+  pub behind : columnAt row i + (r - i) ≡ columnAt row r
+
 -- p is in row y and in the stretch, and no point of the row
 pub record Gap (row : List ℤ) (s : Stretch) (y : ℕ) (p : Point) : Type 0 where
   pub column : ℕ
   pub within : Within s column
   pub here : p ≡ cell column y
   pub lacks : In p (points row) → ⊥
+
+-- p is in row y and in the stretch
+abbrev pub Across : Stretch → ℕ → Point → Type 0
+Across = Gap []

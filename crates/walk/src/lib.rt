@@ -1,11 +1,12 @@
 // The lattice points of a hull that a list in row order lacks, row by row: how many the hull has, the first that is lacking, all of them.
 ghost use mathlib.Core.Path.{_≡_};
-ghost use Prim.Native.Nat.{_<_, _≤_};
+ghost use Prim.Native.Nat.{_<_, _≤_, _-_, _*_};
 ghost use lib.ListN.{length};
-ghost use Rattle.lattice.specs.Point.{points, point};
+ghost use Rattle.lattice.specs.Point.{InRange, points, point, All, Pairs, Before};
 ghost use Rattle.packed.specs.Packed.{Tells, side};
+ghost use Rattle.order.specs.Row.{RunsTo};
 ghost use Rattle.stretch.specs.Stretch.{Peak};
-ghost use Rattle.walk.specs.Walk.{HullOf, Cornered, Walked, Lacking, CountOf, FirstOf, Takes, Puts, Later, RowPoints, Gap};
+ghost use Rattle.walk.specs.Walk.{HullOf, Cornered, Walked, Lacking, CountOf, FirstOf, Takes, Puts, Later, columnAt, RowPoints, Gap, Across, InRow, Neighbour};
 use stretch::Stretch;
 
 const SIDE: u32 = 16384;
@@ -35,6 +36,45 @@ pub fn peak(corners: &[u32]) -> usize
         i += 1;
     }
     peak
+}
+
+// A point of row y, as far behind one of that row as steps that double lead: a long row is passed in few steps.
+fn later_in_row(list: &[i32], y: i32, i: usize) -> usize
+    requires { ⌜ InRow (now list) y i ⌝ }
+    ensures { λ r. ⌜ (i ≤ r) × InRow (now (list .entry)) y r ⌝ }
+{
+    let n = list.len() / 2;
+    let mut last: usize = i;
+    let mut step: usize = 1;
+    while step < n - i {
+        let next = i + step;
+        let v = list[2 * next + 1];
+        if v == y {
+            last = next;
+            step = 2 * step;
+        } else {
+            return last;
+        }
+    }
+    last
+}
+
+// Where the points of row y end that begin at a place of a list in row order.
+pub fn end_of_row(list: &[i32], y: i32, begin: usize) -> usize
+    requires { ⌜ Pairs Before (points (now list)) × (begin ≤ length (points (now list))) ⌝ }
+    ensures { λ r. ⌜ RunsTo (points (now (list .entry))) y begin r ⌝ }
+{
+    let n = list.len() / 2;
+    let mut i: usize = begin;
+    while i < n {
+        let v = list[2 * i + 1];
+        if v == y {
+            i = later_in_row(list, y, i) + 1;
+        } else {
+            return i;
+        }
+    }
+    i
 }
 
 // Whether a row has an i-th point, and this is in column x.
@@ -88,7 +128,7 @@ pub fn first(corners: &[u32], list: &[i32]) -> u32
         }
         crossing = stretch::of_next(corners, peak, y, crossing);
         let columns = crossing.stretch;
-        let end = order::run(list, packed::placed(y), begin);
+        let end = end_of_row(list, packed::placed(y), begin);
         let row = &list[2 * begin..2 * end];
         let mut x = columns.from;
         while x < columns.to {
@@ -103,27 +143,74 @@ pub fn first(corners: &[u32], list: &[i32]) -> u32
     }
 }
 
-// The lattice points of a row's stretch that are no points of the row, at the front of the room; how many there are.
+// The column of a row's point, moved to start at 0.
+fn column_at(row: &[i32], i: usize) -> u32
+    requires { ⌜ (i < length (points (now row))) × All InRange (points (now row)) ⌝ }
+    ensures { λ r. ⌜ (r ≡ columnAt (now (row .entry)) i) × (r < side) ⌝ }
+{
+    packed::moved(row[2 * i])
+}
+
+// A point of the row that is as many columns behind another as places, found by steps that double: there is no gap between them.
+fn neighbour(row: &[i32], i: usize) -> usize
+    requires { ⌜ (i < length (points (now row))) × All InRange (points (now row)) ⌝ }
+    ensures { λ r. ⌜ Neighbour (now (row .entry)) i r ⌝ }
+{
+    let n = row.len() / 2;
+    let first = column_at(row, i) as usize;
+    let mut last: usize = i;
+    let mut step: usize = 1;
+    while step < n - i {
+        if column_at(row, i + step) as usize == first + step {
+            last = i + step;
+            step = 2 * step;
+        } else {
+            return last;
+        }
+    }
+    last
+}
+
+// All lattice points of a row's stretch, at the front of the room; how many there are.
+fn fill(stretch: Stretch, y: u32, room: &mut [i32]) -> usize
+    requires { ⌜ (stretch .from ≤ stretch .to) × (stretch .to ≤ side) × (y < side) × (2 * (stretch .to - stretch .from) ≤ length (now room)) ⌝ }
+    ensures { λ r. ⌜ Puts (Across stretch y) (now (room .entry)) r (now (room .exit)) ⌝ }
+{
+    let mut used: usize = 0;
+    let mut x = stretch.from;
+    while x < stretch.to {
+        room[2 * used] = packed::placed(x);
+        room[2 * used + 1] = packed::placed(y);
+        used += 1;
+        x += 1;
+    }
+    used
+}
+
+// The lattice points of a row's stretch that are no points of the row, gap by gap, at the front of the room; how many there are.
 fn write_row(row: &[i32], stretch: Stretch, y: u32, room: &mut [i32]) -> usize
     requires { ⌜ RowPoints (now row) stretch y × (y < side) × Takes (Gap (now row) stretch y) (now room) ⌝ }
     ensures { λ r. ⌜ Puts (Gap (now (row .entry)) stretch y) (now (room .entry)) r (now (room .exit)) ⌝ }
 {
+    let n = row.len() / 2;
     let mut i: usize = 0;
     let mut used: usize = 0;
     let mut x = stretch.from;
-    while x < stretch.to {
-        let column = packed::placed(x);
-        if holds(row, i, column) {
-            i += 1;
-            x += 1;
-        } else {
-            room[2 * used] = column;
-            room[2 * used + 1] = packed::placed(y);
-            used += 1;
-            x += 1;
-        }
+    while i < n {
+        let gap = Stretch {
+            from: x,
+            to: column_at(row, i),
+        };
+        used += fill(gap, y, &mut room[2 * used..]);
+        let last = neighbour(row, i);
+        x = column_at(row, last) + 1;
+        i = last + 1;
     }
-    used
+    let rest = Stretch {
+        from: x,
+        to: stretch.to,
+    };
+    used + fill(rest, y, &mut room[2 * used..])
 }
 
 // All lattice points of the hull that the list lacks, at the front of the room; how many there are.
@@ -143,7 +230,7 @@ pub fn write(corners: &[u32], list: &[i32], room: &mut [i32]) -> usize
     while y <= last {
         crossing = stretch::of_next(corners, peak, y, crossing);
         let stretch = crossing.stretch;
-        let end = order::run(list, packed::placed(y), begin);
+        let end = end_of_row(list, packed::placed(y), begin);
         used += write_row(&list[2 * begin..2 * end], stretch, y, &mut room[2 * used..]);
         begin = end;
         y += 1;

@@ -12,6 +12,7 @@ use Rattle.lattice.proofs.Numbers.{points-length}
 use Rattle.packed.specs.Packed.{unpacked}
 use Rattle.packed.proofs.Tests.{tells-yes, tells-no}
 use Rattle.rebuild.proofs.Refusing.{looks-as, no-corner-list, some-stray, some-misplaced, points-pass}
+use Rattle.rebuild.proofs.Straying.{all-in-order}
 use Rattle.rebuild.proofs.refusal_of_points.Statement.{statement}
 use Rattle.rebuild.proofs.refusal_of_points.Tie as tie
 
@@ -49,18 +50,18 @@ returns-2 c = let s = c .before .before in
     (some-stray (corners-of e) (points-of e) (listed e) _ (s .first-stray .ensures)
     (omega (arith, points-length (now (e .before .before .before .args .missing)), c .before .if2 .taken)))
 
-first-misplaced-requires : tie.Need-first-misplaced-requires
-first-misplaced-requires c κs = let e = c .before .before in
-    let a = e .before .before .before in
-    (record { below = a .pre .0; listed = listed e }, a .pre .1)
-
-declined-requires-3 : tie.Need-declined-requires-3
-declined-requires-3 c κs = search needs
-
 -- past the second: no point strays
 in-order : (c : tie.Else2) → length (points-of (c .before .before)) ≤ c .before .first-stray .result
 in-order c =
     omega (arith, points-length (now (c .before .before .before .before .before .args .missing)), c .if2 .left)
+
+first-misplaced-requires : tie.Need-first-misplaced-requires
+first-misplaced-requires c κs = let e = c .before .before in
+    let a = e .before .before .before in
+    (record { below = a .pre .0; listed = listed e }, a .pre .1, all-in-order (points-of e) _ (c .before .first-stray .ensures) (in-order c))
+
+declined-requires-3 : tie.Need-declined-requires-3
+declined-requires-3 c κs = search needs
 
 returns-3 : tie.Need-returns-3
 returns-3 c = let m = c .before .before in

@@ -70,20 +70,21 @@ of-next-requires c κs = let p = c .before .before .before .before .before in
 placed-requires : tie.Need-placed-requires Inv-loop μ-loop Inv-rows μ-rows
 placed-requires c κs = omega (arith, few (c .before .before .before), row (c .before .before))
 
-run-requires : tie.Need-run-requires Inv-loop μ-loop Inv-rows μ-rows
-run-requires c κs = c .before .before .before .before .rows .inv .leads .upto
+end-of-row-requires : tie.Need-end-of-row-requires Inv-loop μ-loop Inv-rows μ-rows
+end-of-row-requires c κs = let l = c .before .before .before .before in
+    (l .before .before .before .before .before .before .before .pre .order, l .rows .inv .leads .upto)
 
 -- the points of the row
-held : (c : tie.After-run Inv-loop μ-loop Inv-rows μ-rows) → let l = c .before .before .before .before .before in
-    Holds (points (now (l .before .before .before .before .before .before .before .args .list))) (placed (l .rows .y)) (l .rows .begin) (c .run .result)
+held : (c : tie.After-end-of-row Inv-loop μ-loop Inv-rows μ-rows) → let l = c .before .before .before .before .before in
+    Holds (points (now (l .before .before .before .before .before .before .before .args .list))) (placed (l .rows .y)) (l .rows .begin) (c .end-of-row .result)
 held c = let l = c .before .before .before .before .before in
     let a = l .before .before .before .before .before .before .before in
     ends-hold _ _ _ _ (a .pre .order) (l .rows .inv .leads)
-    (subst (λ y. RunsTo (points (now (a .args .list))) y (l .rows .begin) (c .run .result))
-    (read-back (c .before .placed .result) (record { sfits = c .before .placed .ok }) ∙ c .before .placed .ensures) (c .run .ensures))
+    (subst (λ y. RunsTo (points (now (a .args .list))) y (l .rows .begin) (c .end-of-row .result))
+    (read-back (c .before .placed .result) (record { sfits = c .before .placed .ok }) ∙ c .before .placed .ensures) (c .end-of-row .ensures))
 
 -- they lie in the list
-inside : (c : tie.After-run Inv-loop μ-loop Inv-rows μ-rows) → let l = c .before .before .before .before .before in 2 * c .run .result ≤ length (now (l .before .before .before .before .before .before .before .args .list))
+inside : (c : tie.After-end-of-row Inv-loop μ-loop Inv-rows μ-rows) → let l = c .before .before .before .before .before in 2 * c .end-of-row .result ≤ length (now (l .before .before .before .before .before .before .before .args .list))
 inside c = let l = c .before .before .before .before .before in
     omega (arith, held c .inside, points-length (now (l .before .before .before .before .before .before .before .args .list)))
 
@@ -199,7 +200,7 @@ first-spec =
     rows-holds
     of-next-requires
     placed-requires
-    run-requires
+    end-of-row-requires
     mul-row
     mul-row-2
     mul-row-3

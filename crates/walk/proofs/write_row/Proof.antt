@@ -1,109 +1,157 @@
--- `walk::write_row` meets its contract: a turn of the loop passes one column more. Assumes nothing.
+-- `walk::write_row` meets its contract: a turn of the loop fills one gap more and passes the neighbours behind it. Assumes nothing.
 use Rattle.walk.proofs.write_row.Statement.{statement}
 use Rattle.walk.proofs.write_row.Tie as tie
-use Prim.Native.Nat.{_-_, _<_, _*_, _+_}
-use mathlib.Core.Path.{_≡_, sym, _∙_}
-use mir.Syntax.{w32}
-use mir.Val.{toZ, ofZ}
+use Prim.Native.Nat.{ℕ, _-_, _<_, _≤_, _+_, _*_}
+use mathlib.Core.Path.{_≡_}
 use native.Mathlib.Omega.{arith}
-use borrow.Author.Needs.{needs}
 use denote.Ref.{now}
-use lib.ListN.{length, length-set}
+use lib.ListN.{length}
+use Rattle.lattice.specs.Point.{InRange, points, All}
 use Rattle.lattice.proofs.Numbers.{points-length}
-use Rattle.packed.specs.Packed.{placed}
-use Rattle.packed.proofs.Tests.{read-back, tells-yes, tells-no}
-use Rattle.walk.proofs.Gaps.{Gapping, Held, gapping-none, gapping-held, gapping-room, gapping-gap, gapping-length, gapping-ends}
+use Rattle.walk.specs.Walk.{columnAt}
+use Rattle.walk.proofs.Rows.{row-in-range}
+use Rattle.walk.proofs.Gaps.{Gapping, no-fall, gapping-none, gapping-neighbours, gapping-length, gapping-used, gapping-rest, gapping-fill, gapping-ends}
 
 abbrev Inv-loop : tie.InvT-loop
-Inv-loop row stretch y room₀ i₀ used₀ x₀ room i used x = Gapping row stretch y x i used room₀ room
+Inv-loop row stretch y room₀ n i₀ used₀ x₀ room i used x = Gapping row stretch y x i used room₀ room
 
 abbrev μ-loop : tie.MeasureT-loop
-μ-loop row stretch y room₀ i₀ used₀ x₀ room i used x = stretch .to - x
+μ-loop row stretch y room₀ n i₀ used₀ x₀ room i used x = n - i
 
 loop-holds : tie.Need-loop-holds Inv-loop μ-loop
 loop-holds c = gapping-none _ _ _ (c .pre .0) _
 
-placed-requires : tie.Need-placed-requires Inv-loop μ-loop
-placed-requires c κs = omega (arith, c .before .before .before .pre .0 .few, c .if1 .taken)
+-- the row's points are in range; in a turn the place is one of the row's
+ranged : (c : tie.At-loop Inv-loop μ-loop) → All InRange (points (now (c .before .args .row)))
+ranged c = row-in-range _ _ _ (c .before .pre .0) (c .before .pre .1)
 
-holds-requires : tie.Need-holds-requires Inv-loop μ-loop
-holds-requires c κs = search needs
+inside : (c : tie.In-loop Inv-loop μ-loop) → c .before .loop .i < length (points (now (c .before .before .args .row)))
+inside c = omega (arith, points-length (now (c .before .before .args .row)), c .loop-test .taken)
 
--- in a turn: the column as it was asked for, and whether the row has a point in it
-is-column : (c : tie.After-placed Inv-loop μ-loop) → toZ w32 (ofZ w32 (c .placed .result)) ≡ placed (c .before .before .before .loop .x)
-is-column c = read-back (c .placed .result) (record { sfits = c .placed .ok }) ∙ c .placed .ensures
+column-at-requires : tie.Need-column-at-requires Inv-loop μ-loop
+column-at-requires c κs = (inside c, ranged (c .before))
 
-held : (c : tie.Then2 Inv-loop μ-loop) → let l = c .before .before .before .before .before in Held (now (l .before .args .row)) (l .loop .i) (l .loop .x)
-held c = let h = tells-yes (c .if2 .taken) (c .before .holds .ensures) in (h .0, h .1 ∙ is-column (c .before .before))
+-- the room, as far as it is used, is as long as it was
+long : (c : tie.At-loop Inv-loop μ-loop) → length (c .loop .room) ≡ length (now (c .before .args .room))
+long c = gapping-length _ _ _ (c .before .pre .0) _ _ _ _ _ (c .loop .inv) (c .before .pre .2)
 
-gap : (c : tie.Else2 Inv-loop μ-loop) → let l = c .before .before .before .before .before in Held (now (l .before .args .row)) (l .loop .i) (l .loop .x) → ⊥
-gap c h = tells-no (c .if2 .left) (c .before .holds .ensures) (h .0, h .1 ∙ sym (is-column (c .before .before)))
+taken : (c : tie.At-loop Inv-loop μ-loop) → 2 * c .loop .used ≤ length (c .loop .room)
+taken c = gapping-used _ _ _ (c .before .pre .0) _ _ _ _ _ (c .loop .inv) (c .before .pre .2)
 
-add-i : tie.Need-add-i Inv-loop μ-loop
-add-i c = omega (arith, held c .0, points-length (now (c .before .before .before .before .before .before .args .row)))
+mul-fill : tie.Need-mul-fill Inv-loop μ-loop
+mul-fill c = omega (arith, taken (c .before .before), long (c .before .before))
 
-add-x : tie.Need-add-x Inv-loop μ-loop
-add-x c = omega arith
+mul-fill-2 : tie.Need-mul-fill-2 Inv-loop μ-loop
+mul-fill-2 c = omega (arith, taken (c .before .before), long (c .before .before))
 
-loop-less : tie.Need-loop-less Inv-loop μ-loop
-loop-less c = omega arith
+sub-fill : tie.Need-sub-fill Inv-loop μ-loop
+sub-fill c = taken (c .before .before)
 
-loop-again : tie.Need-loop-again Inv-loop μ-loop
-loop-again c = let l = c .before .before .before .before .before in
-    gapping-held _ _ _ (l .before .pre .0) _ _ _ _ _ (l .loop .inv) (c .before .before .before .if1 .taken) (held c)
+part-fill-start : tie.Need-part-fill-start Inv-loop μ-loop
+part-fill-start c = taken (c .before .before)
 
--- room for one point more
-room : (c : tie.Else2 Inv-loop μ-loop) → let l = c .before .before .before .before .before in 2 * l .loop .used + 1 < length (now (l .before .args .room))
-room c = let l = c .before .before .before .before .before in
-    gapping-room _ _ _ (l .before .pre .0) _ _ _ _ _ (l .loop .inv) (c .before .before .before .if1 .taken) (gap c) (l .before .pre .2)
+part-fill-end : tie.Need-part-fill-end Inv-loop μ-loop
+part-fill-end c = omega arith
 
-long : (c : tie.Else2 Inv-loop μ-loop) → let l = c .before .before .before .before .before in length (l .loop .room) ≡ length (now (l .before .args .room))
-long c = let l = c .before .before .before .before .before in
-    gapping-length _ _ _ (l .before .pre .0) _ _ _ _ _ (l .loop .inv) (l .before .pre .2)
+-- a gap begins where all is written, ends in the stretch, and before its end the row has no point more
+begins : (c : tie.After-column-at Inv-loop μ-loop) → c .before .before .loop .x ≤ c .column-at .result
+begins c = omega (arith, c .column-at .ensures .0, c .before .before .loop .inv .passed .after _ (omega arith) (inside (c .before)))
 
-mul-column : tie.Need-mul-column Inv-loop μ-loop
-mul-column c = omega (arith, room c)
+ends : (c : tie.After-column-at Inv-loop μ-loop) → c .column-at .result ≤ c .before .before .before .args .stretch .to
+ends c = omega (arith, c .column-at .ensures .0, c .before .before .before .pre .0 .within _ (inside (c .before)) .to)
 
-mul-column-2 : tie.Need-mul-column-2 Inv-loop μ-loop
-mul-column-2 c = omega (arith, room c)
+clear : (c : tie.After-column-at Inv-loop μ-loop) → let l = c .before .before in
+    (j : ℕ) → l .loop .i ≤ j → j < length (points (now (l .before .args .row))) → c .column-at .result ≤ columnAt (now (l .before .args .row)) j
+clear c j u v = omega (arith, c .column-at .ensures .0, no-fall _ _ _ (c .before .before .before .pre .0) _ j u v)
 
-slice-set-from-column : tie.Need-slice-set-from-column Inv-loop μ-loop
-slice-set-from-column c = omega (arith, room c, long c)
-
-placed-requires-2 : tie.Need-placed-requires-2 Inv-loop μ-loop
-placed-requires-2 c κs = omega arith
-
-mul-t11 : tie.Need-mul-t11 Inv-loop μ-loop
-mul-t11 c = omega (arith, room (c .before))
-
-add-t12 : tie.Need-add-t12 Inv-loop μ-loop
-add-t12 c = omega (arith, room (c .before))
-
-mul-t15 : tie.Need-mul-t15 Inv-loop μ-loop
-mul-t15 c = omega (arith, room (c .before))
-
-slice-set-from-room : tie.Need-slice-set-from-room Inv-loop μ-loop
-slice-set-from-room c = simp length-set (omega (arith, room (c .before), long (c .before)))
+fill-requires : tie.Need-fill-requires Inv-loop μ-loop
+fill-requires c κs = let g = c .before in
+    let l = g .before .before in (
+      begins g,
+      omega (arith, ends g, l .before .pre .0 .few),
+      l .before .pre .1,
+      gapping-rest _ _ _ (l .before .pre .0) _ _ _ _ _ (l .loop .inv) (l .before .pre .2) _ (begins g) (ends g) (clear g),
+    )
 
 add-used : tie.Need-add-used Inv-loop μ-loop
-add-used c = omega (arith, room (c .before))
+add-used c = let g = c .before .before .before in
+    let l = g .before .before in
+    let f = gapping-fill _ _ _ (l .before .pre .0) _ _ _ _ _ (l .loop .inv) (l .before .pre .2) _ (begins g) (ends g) (clear g) _ _ (c .before .fill .ensures) in
+    omega (
+      arith,
+      gapping-used _ _ _ (l .before .pre .0) _ _ _ _ _ f (l .before .pre .2),
+      gapping-length _ _ _ (l .before .pre .0) _ _ _ _ _ f (l .before .pre .2),
+    )
 
-add-x-2 : tie.Need-add-x-2 Inv-loop μ-loop
-add-x-2 c = omega arith
+neighbour-requires : tie.Need-neighbour-requires Inv-loop μ-loop
+neighbour-requires c κs = (inside (c .before .before .before .before), ranged (c .before .before .before .before .before))
 
-loop-less-2 : tie.Need-loop-less-2 Inv-loop μ-loop
-loop-less-2 c = omega arith
+column-at-requires-2 : tie.Need-column-at-requires-2 Inv-loop μ-loop
+column-at-requires-2 c κs = (c .neighbour .ensures .upto, ranged (c .before .before .before .before .before .before))
 
-loop-again-2 : tie.Need-loop-again-2 Inv-loop μ-loop
-loop-again-2 c = let l = c .before .before .before .before .before .before in
-    gapping-gap _ _ _ (l .before .pre .0) _ _ _ _ _ (l .loop .inv) (c .before .before .before .before .if1 .taken) (gap (c .before)) (room (c .before)) _ _
-    (is-column (c .before .before .before)) (read-back (c .placed2 .result) (record { sfits = c .placed2 .ok }) ∙ c .placed2 .ensures)
+add-x : tie.Need-add-x Inv-loop μ-loop
+add-x c = omega (arith, c .column-at2 .ensures .1)
+
+add-i : tie.Need-add-i Inv-loop μ-loop
+add-i c = omega (arith, c .before .neighbour .ensures .upto, points-length (now (c .before .before .before .before .before .before .before .before .args .row)))
+
+loop-less : tie.Need-loop-less Inv-loop μ-loop
+loop-less c = omega (arith, c .before .neighbour .ensures .from, c .before .before .before .before .before .before .loop-test .taken)
+
+loop-again : tie.Need-loop-again Inv-loop μ-loop
+loop-again c = let f = c .before .before .before in
+    let g = f .before .before in
+    let l = g .before .before in
+    gapping-neighbours _ _ _ (l .before .pre .0) _ _ _ _ _
+    (gapping-fill _ _ _ (l .before .pre .0) _ _ _ _ _ (l .loop .inv) (l .before .pre .2) _ (begins g) (ends g) (clear g) _ _ (f .fill .ensures))
+    _ _ (c .before .neighbour .ensures) (g .column-at .ensures .0) (c .column-at2 .ensures .0)
+
+mul-fill-3 : tie.Need-mul-fill-3 Inv-loop μ-loop
+mul-fill-3 c = omega (arith, taken (c .before), long (c .before))
+
+mul-fill-4 : tie.Need-mul-fill-4 Inv-loop μ-loop
+mul-fill-4 c = omega (arith, taken (c .before), long (c .before))
+
+sub-fill-2 : tie.Need-sub-fill-2 Inv-loop μ-loop
+sub-fill-2 c = taken (c .before)
+
+part-fill-start-2 : tie.Need-part-fill-start-2 Inv-loop μ-loop
+part-fill-start-2 c = taken (c .before)
+
+part-fill-end-2 : tie.Need-part-fill-end-2 Inv-loop μ-loop
+part-fill-end-2 c = omega arith
+
+-- behind the last point of the row
+past : (c : tie.After-loop Inv-loop μ-loop) → let l = c .before in
+    (j : ℕ) → l .loop .i ≤ j → j < length (points (now (l .before .args .row))) → l .before .args .stretch .to ≤ columnAt (now (l .before .args .row)) j
+past c j u v = absurd (omega (arith, u, v, points-length (now (c .before .before .args .row)), c .loop-test .left))
+
+fill-requires-2 : tie.Need-fill-requires-2 Inv-loop μ-loop
+fill-requires-2 c κs = let l = c .before .before in (
+  l .loop .inv .to,
+  l .before .pre .0 .few,
+  l .before .pre .1,
+  gapping-rest _ _ _ (l .before .pre .0) _ _ _ _ _ (l .loop .inv) (l .before .pre .2) _ (l .loop .inv .to) (omega arith) (past (c .before)),
+)
+
+add-result : tie.Need-add-result Inv-loop μ-loop
+add-result c = let l = c .before .before .before .before in
+    let f = gapping-fill _ _ _ (l .before .pre .0) _ _ _ _ _ (l .loop .inv) (l .before .pre .2) _ (l .loop .inv .to) (omega arith) (past (c .before .before .before)) _ _ (c .before .fill2 .ensures) in
+    omega (
+      arith,
+      gapping-used _ _ _ (l .before .pre .0) _ _ _ _ _ f (l .before .pre .2),
+      gapping-length _ _ _ (l .before .pre .0) _ _ _ _ _ f (l .before .pre .2),
+    )
 
 same-length : tie.Need-same-length Inv-loop μ-loop
-same-length c = gapping-length _ _ _ (c .before .before .before .pre .0) _ _ _ _ _ (c .before .before .loop .inv) (c .before .before .before .pre .2)
+same-length c = let l = c .before .before .before .before in
+    gapping-length _ _ _ (l .before .pre .0) _ _ _ _ _
+    (gapping-fill _ _ _ (l .before .pre .0) _ _ _ _ _ (l .loop .inv) (l .before .pre .2) _ (l .loop .inv .to) (omega arith) (past (c .before .before .before)) _ _ (c .before .fill2 .ensures)) (l .before .pre .2)
 
 returns : tie.Need-returns Inv-loop μ-loop
-returns c = gapping-ends _ _ _ (c .before .before .before .pre .0) _ _ _ _ _ (c .before .before .loop .inv) (c .if1 .left)
+returns c = let l = c .before .before .before .before in
+    gapping-ends _ _ _ (l .before .pre .0) _ _ _ _ _
+    (gapping-fill _ _ _ (l .before .pre .0) _ _ _ _ _ (l .loop .inv) (l .before .pre .2) _ (l .loop .inv .to) (omega arith) (past (c .before .before .before)) _ _ (c .before .fill2 .ensures)) (omega arith)
 
 pub write-row-spec : {M : Type 1} → statement M
 write-row-spec =
@@ -112,23 +160,26 @@ write-row-spec =
     Inv-loop
     μ-loop
     loop-holds
-    placed-requires
-    holds-requires
-    add-i
+    column-at-requires
+    mul-fill
+    mul-fill-2
+    sub-fill
+    part-fill-start
+    part-fill-end
+    fill-requires
+    add-used
+    neighbour-requires
+    column-at-requires-2
     add-x
+    add-i
     loop-less
     loop-again
-    mul-column
-    mul-column-2
-    slice-set-from-column
-    placed-requires-2
-    mul-t11
-    add-t12
-    mul-t15
-    slice-set-from-room
-    add-used
-    add-x-2
-    loop-less-2
-    loop-again-2
+    mul-fill-3
+    mul-fill-4
+    sub-fill-2
+    part-fill-start-2
+    part-fill-end-2
+    fill-requires-2
+    add-result
     same-length
     returns)
