@@ -7,7 +7,9 @@ pub mod Headers
 pub mod Plain
 pub mod Counting
 pub mod Writing
+pub mod Tallies
 pub mod Pictures
+pub mod Rows
 pub mod Points
 pub mod Pinned
 pub mod Accepted

@@ -29,6 +29,17 @@ none-left (b ∷ l) i m e = by-space (whiteSpace b) e (none-left l (suc i) m)
     by-space true f g = g f
     by-space false f g = absurd (let z : _≡_ {A = ℕ} 0 1 = cc in omega arith)
 
+-- ---- the first byte, then the others
+pub blank-ignored : (b : ℕ) (l : List ℕ) (n i : ℕ) → whiteSpace b ≡ true → plain (b ∷ l) n i ≡ plain l n (suc i)
+blank-ignored b l zero i e = rw e
+blank-ignored b l (suc n) i e = rw e
+
+pub black-first : (b : ℕ) (l : List ℕ) (n i : ℕ) → b ≡ 49 → plain (b ∷ l) (suc n) i ≡ onto true (plain l n (suc i))
+black-first b l n i e = rw e
+
+pub white-first : (b : ℕ) (l : List ℕ) (n i : ℕ) → b ≡ 48 → plain (b ∷ l) (suc n) i ≡ onto false (plain l n (suc i))
+white-first b l n i e = rw e
+
 -- ---- the byte at i, then those from i + 1 on
 module _ (bytes : List ℕ) (i : ℕ) (inside : i < length bytes) where
   abbrev byte-at : ℕ
@@ -38,14 +49,13 @@ module _ (bytes : List ℕ) (i : ℕ) (inside : i < length bytes) where
   one-more n = rw (add-one, drop-cons bytes i 0)
 
   pub white-ignored : whiteSpace byte-at ≡ true → (n : ℕ) → plainAt bytes n i ≡ plainAt bytes n (i + 1)
-  white-ignored e zero = one-more zero ∙ rw (e, add-one)
-  white-ignored e (suc n) = one-more (suc n) ∙ rw (e, add-one)
+  white-ignored e n = one-more n ∙ blank-ignored byte-at (drop (i + 1) bytes) n i e ∙ rw add-one
 
   pub black-pixel : byte-at ≡ 49 → (n : ℕ) → plainAt bytes (suc n) i ≡ onto true (plainAt bytes n (i + 1))
-  black-pixel e n = one-more (suc n) ∙ rw (e, add-one)
+  black-pixel e n = one-more (suc n) ∙ black-first byte-at (drop (i + 1) bytes) n i e ∙ rw add-one
 
   pub white-pixel : byte-at ≡ 48 → (n : ℕ) → plainAt bytes (suc n) i ≡ onto false (plainAt bytes n (i + 1))
-  white-pixel e n = one-more (suc n) ∙ rw (e, add-one)
+  white-pixel e n = one-more (suc n) ∙ white-first byte-at (drop (i + 1) bytes) n i e ∙ rw add-one
 
   pub bad-byte : whiteSpace byte-at ≡ false → (byte-at ≡ 49 → ⊥) → (byte-at ≡ 48 → ⊥) → (n : ℕ) → plainAt bytes (suc n) i ≡ fault 23 i
   bad-byte e m k n = one-more (suc n) ∙ rw (e, ne-eqb byte-at 49 m, ne-eqb byte-at 48 k)

@@ -2,7 +2,7 @@
 use mathlib.Core.Path.{_≡_, refl, sym, _∙_, ap}
 use mathlib.Core.Bool.{Bool, true, false}
 use mathlib.Core.List.{List, [], _∷_, _++_, append-assoc, append-nil}
-use Prim.Native.Nat.{ℕ, suc, _+_, _*_, _-_, _/_, _%_, _≤_, _<_}
+use Prim.Native.Nat.{ℕ, zero, suc, _+_, _*_, _-_, _/_, _%_, _≤_, _<_}
 use native.Mathlib.Numerals.{add-one}
 use native.Mathlib.Omega.{arith}
 use lib.ListN.{length, set, length-append}
@@ -11,7 +11,7 @@ use Rattle.lattice.specs.Point.{Point, most}
 use Rattle.lattice.specs.Room.{holding}
 use Rattle.lattice.proofs.Rooms.{holding-length, holding-next}
 use Rattle.bitmap.specs.Pixels.{Raster, pixels, fault, onto, pixelPoint, black, blackIn}
-use Rattle.bitmap.specs.Steps.{Writable}
+use Rattle.bitmap.specs.Steps.{whites, Passes, Writable}
 
 -- a pixel more: the pixels behind it
 pub onto-pixels : (p : Bool) (r : Raster) (l : List Bool) → onto p r ≡ pixels l → (m : List Bool) × (r ≡ pixels m) × (l ≡ p ∷ m)
@@ -97,6 +97,28 @@ module _ (raster : ℕ → ℕ → Raster) (at all width : ℕ) (list₀ list : 
               ∙ holding-next (h .written) n (h .count) p list₀ room;
           upto = omega arith;
         }
+
+-- m white pixels more
+black-whites : (width k m : ℕ) (l : List Bool) → black width k (whites m l) ≡ black width (k + m) l
+black-whites width k zero l = let e : k ≡ k + 0 = omega arith in ap (λ j. black width j l) e
+black-whites width k (suc m) l =
+    let e : suc k + m ≡ k + suc m = omega arith in
+    black-whites width (suc k) m l ∙ ap (λ j. black width j l) e
+
+pub writing-passed : (raster : ℕ → ℕ → Raster) (at all width : ℕ) (list₀ list : List ℤ) (n k i : ℕ) → Writing raster at all width list₀ list n k i
+    → (m next : ℕ) → Passes raster i m next → Writing raster at all width list₀ list n (k + m) next
+writing-passed raster at all width list₀ list n k i h m next p =
+    let w = p (all - k) (h .rest) (h .left) in
+    let e : all - (k + m) ≡ all - k - m = omega arith in
+    record {
+      written = h .written;
+      rest = w .rest;
+      left = ap (λ j. raster j next) e ∙ w .behind;
+      same = ap (λ l. h .written ++ l) (sym (black-whites width k m (w .rest)) ∙ ap (black width k) (sym (w .same))) ∙ h .same;
+      count = h .count;
+      stand = h .stand;
+      upto = omega (arith, w .fits, h .upto);
+    }
 
 pub writing-length : (raster : ℕ → ℕ → Raster) (at all width : ℕ) (list₀ list : List ℤ) (n k i : ℕ) → Writing raster at all width list₀ list n k i
     → length (blackIn width (raster all at)) ≤ most → 2 * most ≤ length list₀ → length list ≡ length list₀

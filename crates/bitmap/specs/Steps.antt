@@ -1,10 +1,12 @@
 -- How the code goes through a bitmap: what each step finds, in the words of the definitions. Assumes nothing.
 use mathlib.Core.Path.{_≡_}
-use mathlib.Core.Bool.{Bool, true, false}
+use mathlib.Core.Bool.{Bool, true, false, not, _||_}
 use mathlib.Core.List.{List, [], _∷_}
-use Prim.Native.Nat.{ℕ, suc, _+_, _*_, _≤_, _<_, min}
-use lib.ListN.{length, getD}
+use Prim.Native.Nat.{ℕ, zero, suc, _+_, _*_, _-_, _/_, _≤_, _<_, min}
+use lib.Dec.{eqb}
+use lib.ListN.{length, getD, drop}
 use lib.IntN.{ℤ}
+use mir.Val.{boolByte}
 use Rattle.lattice.specs.Point.{most}
 use Rattle.bitmap.specs.declared.Run.{Run}
 use Rattle.bitmap.specs.declared.Part.{Part}
@@ -15,6 +17,8 @@ use Rattle.bitmap.specs.declared.Pixel.{Pixel}
 use Rattle.bitmap.specs.declared.Pixel.the-variants.{Black, White, Fault}
 use Rattle.bitmap.specs.declared.Count.{Count}
 use Rattle.bitmap.specs.declared.Count.the-variants as counts
+use Rattle.bitmap.specs.declared.Tally.{Tally}
+use Rattle.bitmap.specs.declared.Row.{Row}
 use Rattle.bitmap.specs.Bytes.{whiteSpace, hash, digit, Placed, readAt}
 use Rattle.bitmap.specs.Header.{behind, size as sizeOf, greatestSize, sizeThen}
 use Rattle.bitmap.specs.Pixels.{Raster, pixels, fault, onto, plainAt, blackIn}
@@ -54,6 +58,55 @@ abbrev pub Fetches : (ℕ → ℕ → Raster) → ℕ → Pixel → Type 0
 Fetches raster at (Black next) = (n : ℕ) → raster (suc n) at ≡ onto true (raster n next)
 Fetches raster at (White next) = (n : ℕ) → raster (suc n) at ≡ onto false (raster n next)
 Fetches raster at (Fault number place) = (n : ℕ) → raster (suc n) at ≡ fault number place
+
+-- a byte that is a black pixel; a white one; neither a pixel nor white space
+abbrev pub blackByte : ℕ → Bool
+blackByte b = eqb b 49
+
+abbrev pub whiteByte : ℕ → Bool
+whiteByte b = eqb b 48
+
+abbrev pub badByte : ℕ → Bool
+badByte b = not (whiteSpace b || blackByte b || whiteByte b)
+
+-- how many bytes pass a test
+abbrev pub number : (ℕ → Bool) → List ℕ → ℕ
+number test [] = 0
+number test (b ∷ l) = boolByte (test b) + number test l
+
+-- c of the bytes from one place to another pass a test: so many more from the one place on than from the other on
+pub record Numbers (test : ℕ → Bool) (bytes : List ℕ) (from to c : ℕ) : Type 0 where
+  pub more : number test (drop from bytes) ≡ c + number test (drop to bytes)
+  pub few : c + from ≤ to
+
+pub record Tallied (bytes : List ℕ) (from to : ℕ) (t : Tally) : Type 0 where
+  pub black : Numbers blackByte bytes from to (t .black)
+  pub white : Numbers whiteByte bytes from to (t .white)
+  pub bad : Numbers badByte bytes from to (t .bad)
+
+-- m white pixels, and others behind them
+abbrev pub whites : ℕ → List Bool → List Bool
+whites zero l = l
+whites (suc m) l = false ∷ whites m l
+
+-- where n pixels from a place have no fault, they are m white ones and n - m from the next place on, however a raster is read
+pub record WhiteThen (raster : ℕ → ℕ → Raster) (n m next : ℕ) (l : List Bool) : Type 0 where
+  pub fits : m ≤ n
+  pub rest : List Bool
+  pub behind : raster (n - m) next ≡ pixels rest
+  pub same : l ≡ whites m rest
+
+abbrev pub Passes : (ℕ → ℕ → Raster) → ℕ → ℕ → ℕ → Type 0
+Passes raster at m next = (n : ℕ) (l : List Bool) → raster n at ≡ pixels l → WhiteThen raster n m next l
+
+-- a row that begins no later than pixel k; the row of pixel k
+pub record Begun (width k : ℕ) (row : Row) : Type 0 where
+  pub first : row .first ≡ row .y * width
+  pub before : row .first ≤ k
+
+pub record RowOf (width k : ℕ) (row : Row) : Type 0 where
+  pub y : row .y ≡ k / width
+  pub first : row .first ≡ k / width * width
 
 -- how many are black
 abbrev pub blacks : List Bool → ℕ

@@ -8,7 +8,7 @@ ghost use Rattle.bitmap.specs.Bytes.{whiteSpace, readIn, readAt};
 ghost use Rattle.bitmap.specs.Header.{starts, behind, inSize, greatestSize, headerOf};
 ghost use Rattle.bitmap.specs.Pixels.{plainAt, blackIn};
 ghost use Rattle.bitmap.specs.Picture.{refused as refusedOf, beginsP1, answerOf, PicturePromise};
-ghost use Rattle.bitmap.specs.Steps.{Settled, Leads, RunAt, Sized, Skips, Fetches, counted, Writable};
+ghost use Rattle.bitmap.specs.Steps.{Settled, Leads, RunAt, Sized, Skips, Fetches, badByte, Tallied, Passes, Begun, RowOf, counted, Writable};
 
 // The longest file, the greatest width and height, and the numbers that the list has room for.
 pub const LONGEST: usize = 65536;
@@ -16,6 +16,9 @@ pub const LONGEST: usize = 65536;
 pub const GREATEST_SIZE: usize = 1024;
 
 pub const ROOM: usize = 8192;
+
+// How many bytes are tallied at a time: so few that a byte holds each count, which lets the compiler count sixteen bytes at once.
+const PART: usize = 64;
 
 // What `read` answers: number and place, 0 and 0 if accepted; how many black pixels; width and height.
 #[repr(C)]
@@ -60,6 +63,26 @@ enum Pixel {
 enum Count {
     Black(usize),
     Fault(u32, usize),
+}
+
+// How many of some bytes are black pixels, white pixels, and neither a pixel nor white space.
+struct Tally {
+    black: usize,
+    white: usize,
+    bad: usize,
+}
+
+// How many white pixels were passed; the place behind them; and a place up to which no part is worth a look.
+struct Passed {
+    pixels: usize,
+    next: usize,
+    until: usize,
+}
+
+// A row and the number of its first pixel.
+struct Row {
+    y: usize,
+    first: usize,
 }
 
 fn white_space(b: u8) -> bool
@@ -230,8 +253,8 @@ fn blanks(bytes: &[u8], at: usize) -> usize
     i
 }
 
-// The next pixel from a place on, behind white space.
-fn find(bytes: &[u8], at: usize) -> Pixel
+// How pixels are fetched: the next one from a place on, behind white space.
+fn fetch(bytes: &[u8], at: usize) -> Pixel
     ensures { λ r. ⌜ Fetches (plainAt (now (bytes .entry))) at r ⌝ }
 {
     let i = blanks(bytes, at);
@@ -248,24 +271,8 @@ fn find(bytes: &[u8], at: usize) -> Pixel
     Pixel::Fault(24, i)
 }
 
-// How pixels are fetched: the next one from a place on, which is most often the byte there.
-fn fetch(bytes: &[u8], at: usize) -> Pixel
-    ensures { λ r. ⌜ Fetches (plainAt (now (bytes .entry))) at r ⌝ }
-{
-    if at < bytes.len() {
-        let b = bytes[at];
-        if b == b'0' {
-            return Pixel::White(at + 1);
-        }
-        if b == b'1' {
-            return Pixel::Black(at + 1);
-        }
-    }
-    find(bytes, at)
-}
-
-// The pixels from a place on, checked and counted.
-fn check_pixels(bytes: &[u8], at: usize, pixels: usize) -> Count
+// The pixels from a place on, one by one, checked and counted.
+fn check_each(bytes: &[u8], at: usize, pixels: usize) -> Count
     ensures { λ r. ⌜ r ≡ counted 0 (plainAt (now (bytes .entry)) pixels at) ⌝ }
 {
     let mut black: usize = 0;
@@ -294,26 +301,164 @@ fn check_pixels(bytes: &[u8], at: usize, pixels: usize) -> Count
     Count::Black(black)
 }
 
+// Neither white space nor a pixel.
+fn bad_byte(b: u8) -> bool
+    ensures { λ r. ⌜ r ≡ badByte b ⌝ }
+{
+    if white_space(b) {
+        return false;
+    }
+    if b == b'1' {
+        return false;
+    }
+    if b == b'0' {
+        return false;
+    }
+    true
+}
+
+// The bytes from one place to another, tallied.
+fn tally_part(bytes: &[u8], from: usize, to: usize) -> Tally
+    requires { ⌜ (from ≤ to) × (to ≤ length (now bytes)) × (to < from + 256) ⌝ }
+    ensures { λ r. ⌜ Tallied (now (bytes .entry)) from to r ⌝ }
+{
+    let mut black: u8 = 0;
+    let mut white: u8 = 0;
+    let mut bad: u8 = 0;
+    let mut i = from;
+    while i < to {
+        let b = bytes[i];
+        black += (b == b'1') as u8;
+        white += (b == b'0') as u8;
+        bad += bad_byte(b) as u8;
+        i += 1;
+    }
+    Tally {
+        black: black as usize,
+        white: white as usize,
+        bad: bad as usize,
+    }
+}
+
+// All bytes from a place on, tallied a part at a time.
+fn tally_all(bytes: &[u8], at: usize) -> Tally
+    requires { ⌜ at ≤ length (now bytes) ⌝ }
+    ensures { λ r. ⌜ Tallied (now (bytes .entry)) at (length (now (bytes .entry))) r ⌝ }
+{
+    let mut black: usize = 0;
+    let mut white: usize = 0;
+    let mut bad: usize = 0;
+    let mut i = at;
+    while PART <= bytes.len() - i {
+        let part = tally_part(bytes, i, i + PART);
+        black += part.black;
+        white += part.white;
+        bad += part.bad;
+        i += PART;
+    }
+    let rest = tally_part(bytes, i, bytes.len());
+    Tally {
+        black: black + rest.black,
+        white: white + rest.white,
+        bad: bad + rest.bad,
+    }
+}
+
+// The pixels from a place on, checked and counted: where no byte is bad and as many as must be are pixels, there is no fault to look for.
+fn check_pixels(bytes: &[u8], at: usize, pixels: usize) -> Count
+    ensures { λ r. ⌜ r ≡ counted 0 (plainAt (now (bytes .entry)) pixels at) ⌝ }
+{
+    if at < bytes.len() {
+        let all = tally_all(bytes, at);
+        if all.bad == 0 {
+            if all.black + all.white == pixels {
+                return Count::Black(all.black);
+            }
+        }
+    }
+    check_each(bytes, at, pixels)
+}
+
+// White pixels of a picture with no fault, from a place on, a part at a time, up to a part with a black one, which `until` spares a second look.
+fn pass_white(bytes: &[u8], at: usize, until: usize) -> Passed
+    ensures { λ r. ⌜ Passes (plainAt (now (bytes .entry))) at (r .pixels) (r .next) ⌝ }
+{
+    if at < until {
+        return Passed {
+            pixels: 0,
+            next: at,
+            until,
+        };
+    }
+    let mut pixels: usize = 0;
+    let mut i = at;
+    while i < bytes.len() {
+        if bytes.len() - i < PART {
+            return Passed {
+                pixels,
+                next: i,
+                until: bytes.len(),
+            };
+        }
+        let part = tally_part(bytes, i, i + PART);
+        if 0 < part.black {
+            return Passed {
+                pixels,
+                next: i,
+                until: i + PART,
+            };
+        }
+        pixels += part.white;
+        i += PART;
+    }
+    Passed {
+        pixels,
+        next: i,
+        until: i,
+    }
+}
+
+// The row of pixel k: that of an earlier pixel, and a division only where that row ends before k.
+fn row_of(row: Row, k: usize, width: usize) -> Row
+    requires { ⌜ Begun width k row × (1 ≤ width) ⌝ }
+    ensures { λ r. ⌜ RowOf width k r ⌝ }
+{
+    let first = row.first;
+    if k - first < width {
+        return row;
+    }
+    let y = k / width;
+    Row {
+        y,
+        first: y * width,
+    }
+}
+
 // The black pixels as points, at the front of the list.
 fn write_points(bytes: &[u8], at: usize, width: usize, pixels: usize, list: &mut [i32])
     requires { ⌜ Writable (plainAt (now bytes) pixels at) width pixels (now list) ⌝ }
     ensures { λ _. ⌜ now (list .exit) ≡ holding (blackIn width (plainAt (now (bytes .entry)) pixels at)) (now (list .entry)) ⌝ }
 {
+    let mut row = Row { y: 0, first: 0 };
     let mut n: usize = 0;
     let mut k: usize = 0;
     let mut i = at;
+    let mut until = at;
     while k < pixels {
         match fetch(bytes, i) {
             Pixel::Black(next) => {
-                list[2 * n] = (k % width) as i32;
-                list[2 * n + 1] = (k / width) as i32;
+                row = row_of(row, k, width);
+                list[2 * n] = (k - row.first) as i32;
+                list[2 * n + 1] = row.y as i32;
                 n += 1;
                 k += 1;
                 i = next;
             }
             Pixel::White(next) => {
-                k += 1;
-                i = next;
+                let passed = pass_white(bytes, next, until);
+                k = k + 1 + passed.pixels;
+                i = passed.next;
+                until = passed.until;
             }
             Pixel::Fault(_, _) => {
                 return;
