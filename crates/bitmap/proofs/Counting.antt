@@ -16,34 +16,34 @@ pub counted-white : (c : ℕ) (r : Raster) → counted c (onto false r) ≡ coun
 counted-white c (pixels l) = refl
 counted-white c (fault number place) = refl
 
--- k of all pixels are passed, `black` of them black, and place i is reached
-pub record Counting (raster : ℕ → ℕ → Raster) (at all black k i : ℕ) : Type 0 where
-  pub same : counted black (raster (all - k) i) ≡ counted 0 (raster all at)
+-- k of all pixels are passed, `black` are black with those before them, and place i is reached
+pub record Counting (raster : ℕ → ℕ → Raster) (at all before black k i : ℕ) : Type 0 where
+  pub same : counted black (raster (all - k) i) ≡ counted before (raster all at)
   pub upto : k ≤ all
-  pub few : black ≤ k
+  pub few : black ≤ before + k
 
-pub counting-none : (raster : ℕ → ℕ → Raster) (at all : ℕ) → Counting raster at all 0 0 at
-counting-none raster at all =
+pub counting-none : (raster : ℕ → ℕ → Raster) (at all before : ℕ) → Counting raster at all before before 0 at
+counting-none raster at all before =
     let e : all - 0 ≡ all = omega arith in
-    record { same = ap (λ n. counted 0 (raster n at)) e; upto = omega arith; few = omega arith }
+    record { same = ap (λ n. counted before (raster n at)) e; upto = omega arith; few = omega arith }
 
-module _ (raster : ℕ → ℕ → Raster) (at all black k i : ℕ) (h : Counting raster at all black k i) where
+module _ (raster : ℕ → ℕ → Raster) (at all before black k i : ℕ) (h : Counting raster at all before black k i) where
   next-left : k < all → all - k ≡ suc (all - (k + 1))
   next-left l = omega arith
 
   -- what is fetched next
-  fetched : k < all → (r : ℕ → Raster) → ((n : ℕ) → raster (suc n) i ≡ r n) → counted black (r (all - (k + 1))) ≡ counted 0 (raster all at)
+  fetched : k < all → (r : ℕ → Raster) → ((n : ℕ) → raster (suc n) i ≡ r n) → counted black (r (all - (k + 1))) ≡ counted before (raster all at)
   fetched l r f = ap (counted black) (sym (f (all - (k + 1))) ∙ ap (λ n. raster n i) (sym (next-left l))) ∙ h .same
 
   module _ (l : k < all) (next : ℕ) where
-    pub counting-black : ((n : ℕ) → raster (suc n) i ≡ onto true (raster n next)) → Counting raster at all (black + 1) (k + 1) next
+    pub counting-black : ((n : ℕ) → raster (suc n) i ≡ onto true (raster n next)) → Counting raster at all before (black + 1) (k + 1) next
     counting-black f = record {
       same = sym (counted-black black (raster (all - (k + 1)) next)) ∙ fetched l (λ n. onto true (raster n next)) f;
       upto = omega arith;
       few = omega (arith, h .few);
     }
 
-    pub counting-white : ((n : ℕ) → raster (suc n) i ≡ onto false (raster n next)) → Counting raster at all black (k + 1) next
+    pub counting-white : ((n : ℕ) → raster (suc n) i ≡ onto false (raster n next)) → Counting raster at all before black (k + 1) next
     counting-white f = record {
       same = sym (counted-white black (raster (all - (k + 1)) next)) ∙ fetched l (λ n. onto false (raster n next)) f;
       upto = omega arith;
@@ -51,10 +51,10 @@ module _ (raster : ℕ → ℕ → Raster) (at all black k i : ℕ) (h : Countin
     }
 
   pub counting-fault : k < all → (number place : ℕ) → ((n : ℕ) → raster (suc n) i ≡ fault number place)
-      → counts.Fault number place ≡ counted 0 (raster all at)
+      → counts.Fault number place ≡ counted before (raster all at)
   counting-fault l number place f = fetched l (λ n. fault number place) f
 
-  pub counting-ends : all ≤ k → (r : Raster) → raster 0 i ≡ r → counted black r ≡ counted 0 (raster all at)
+  pub counting-ends : all ≤ k → (r : Raster) → raster 0 i ≡ r → counted black r ≡ counted before (raster all at)
   counting-ends l r e =
       let z : all - k ≡ 0 = omega arith in
       ap (counted black) (sym e ∙ ap (λ n. raster n i) (sym z)) ∙ h .same

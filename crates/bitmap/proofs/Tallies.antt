@@ -6,7 +6,7 @@ use Prim.Native.Nat.{ℕ, zero, suc, _+_, _-_, _≤_, _<_}
 use native.Mathlib.Numerals.{add-one}
 use native.Mathlib.Omega.{arith}
 use borrow.Author.Tests.{eqb-true}
-use lib.ListN.{length, getD, drop, length-drop, drop-of-length-le}
+use lib.ListN.{length, getD, drop, length-drop}
 use lib.Seq.{drop-cons, drop-drop}
 use mir.Val.{boolByte}
 use Rattle.bitmap.specs.declared.Count.the-variants as counts
@@ -38,14 +38,6 @@ module _ (test : ℕ → Bool) (bytes : List ℕ) (from : ℕ) where
       let next : number test (drop i bytes) ≡ boolByte (test (getD bytes i 0)) + number test (drop (i + 1) bytes) = rw (add-one, drop-cons bytes i 0) in
       record { more = omega (arith, h .more, next, ap boolByte e); few = omega (arith, h .few, bool-byte-few t) }
 
-  numbers-then : (mid to c d : ℕ) → Numbers test bytes from mid c → Numbers test bytes mid to d → Numbers test bytes from to (c + d)
-  numbers-then mid to c d h g = record { more = omega (arith, h .more, g .more); few = omega (arith, h .few, g .few) }
-
-  numbers-all : (c : ℕ) → Numbers test bytes from (length bytes) c → number test (drop from bytes) ≡ c
-  numbers-all c h =
-      let none : drop (length bytes) bytes ≡ [] = drop-of-length-le bytes {i = length bytes} (omega arith) in
-      omega (arith, h .more, ap (number test) none)
-
 -- ---- the three tests at once
 pub tallied-none : (bytes : List ℕ) (from : ℕ) → Tallied bytes from from (record { black = 0; white = 0; bad = 0 })
 tallied-none bytes from = record { black = numbers-none _ _ _; white = numbers-none _ _ _; bad = numbers-none _ _ _ }
@@ -58,14 +50,6 @@ module _ (bytes : List ℕ) (from i : ℕ) (t : Tally) (h : Tallied bytes from i
     black = numbers-more blackByte bytes from i (t .black) (h .black) l _ refl;
     white = numbers-more whiteByte bytes from i (t .white) (h .white) l _ refl;
     bad = numbers-more badByte bytes from i (t .bad) (h .bad) l bad e;
-  }
-
-  pub tallied-then : (to : ℕ) (u : Tally) → Tallied bytes i to u
-      → Tallied bytes from to (record { black = t .black + u .black; white = t .white + u .white; bad = t .bad + u .bad })
-  tallied-then to u g = record {
-    black = numbers-then blackByte bytes from i to (t .black) (u .black) (h .black) (g .black);
-    white = numbers-then whiteByte bytes from i to (t .white) (u .white) (h .white) (g .white);
-    bad = numbers-then badByte bytes from i to (t .bad) (u .bad) (h .bad) (g .bad);
   }
 
 -- ---- a byte is white space, a pixel or bad
@@ -87,41 +71,56 @@ kind-of b = by-pixel (blackByte b) refl (whiteByte b) refl
     by-pixel false f true g = white (eqb-true b 48 g)
     by-pixel false f false g = by-space (whiteSpace b) refl f g
 
--- ---- bytes of which none is bad, and as many are pixels as must be, have no fault
-counted-numbers : (l : List ℕ) (n i c : ℕ) → number badByte l ≡ 0 → number blackByte l + number whiteByte l ≡ n
-    → counted c (plain l n i) ≡ counts.Black (c + number blackByte l)
-counted-numbers [] zero i c h e = refl
-counted-numbers [] (suc n) i c h e = absurd (omega arith)
-counted-numbers (b ∷ l) n i c h e = by-kind (kind-of b) n e (λ m j d. counted-numbers l m j d (omega arith))
+-- ---- bytes of which none is bad are so many pixels, if these are not too many
+counted-numbers : (d : ℕ) (l : List ℕ) (n i c ones zeros : ℕ) → d ≤ length l → number badByte l ≡ number badByte (drop d l)
+    → number blackByte l ≡ ones + number blackByte (drop d l) → number whiteByte l ≡ zeros + number whiteByte (drop d l) → ones + zeros ≤ n
+    → counted c (plain l n i) ≡ counted (c + ones) (plain (drop d l) (n - (ones + zeros)) (i + d))
+counted-numbers zero l n i c ones zeros long none e f few =
+    let x : c ≡ c + ones = omega arith in
+    let y : n ≡ n - (ones + zeros) = omega arith in
+    let z : i ≡ i + 0 = omega arith in
+    λ j. counted (x j) (plain l (y j) (z j))
+counted-numbers (suc d) [] n i c ones zeros long none e f few = absurd (omega arith)
+counted-numbers (suc d) (b ∷ l) n i c ones zeros long none e f few =
+    by-kind (kind-of b) n few (λ n c ones zeros. counted-numbers d l n (suc i) c ones zeros (omega arith))
   where
-    by-kind : Kind b → (n : ℕ) → number blackByte (b ∷ l) + number whiteByte (b ∷ l) ≡ n
-        → ((m j d : ℕ) → number blackByte l + number whiteByte l ≡ m → counted d (plain l m j) ≡ counts.Black (d + number blackByte l))
-        → counted c (plain (b ∷ l) n i) ≡ counts.Black (c + number blackByte (b ∷ l))
-    by-kind (blank s f g) n e again =
-        let d : c + number blackByte l ≡ c + number blackByte (b ∷ l) = omega (arith, ap boolByte f) in
-        ap (counted c) (blank-ignored b l n i s) ∙ again n (suc i) c (omega (arith, ap boolByte f, ap boolByte g)) ∙ ap counts.Black d
-    by-kind (black f) zero e again = absurd (let o = ap (λ a. boolByte (blackByte a)) f in omega arith)
-    by-kind (black f) (suc n) e again =
-        let o : boolByte (blackByte b) ≡ 1 = rw f in
-        let z : boolByte (whiteByte b) ≡ 0 = rw f in
-        let d : c + 1 + number blackByte l ≡ c + number blackByte (b ∷ l) = omega arith in
-        ap (counted c) (black-first b l n i f) ∙ counted-black c (plain l n (suc i)) ∙ again n (suc i) (c + 1) (omega arith) ∙ ap counts.Black d
-    by-kind (white f) zero e again = absurd (let o = ap (λ a. boolByte (whiteByte a)) f in omega arith)
-    by-kind (white f) (suc n) e again =
-        let o : boolByte (blackByte b) ≡ 0 = rw f in
-        let z : boolByte (whiteByte b) ≡ 1 = rw f in
-        let d : c + number blackByte l ≡ c + number blackByte (b ∷ l) = omega arith in
-        ap (counted c) (white-first b l n i f) ∙ counted-white c (plain l n (suc i)) ∙ again n (suc i) c (omega arith) ∙ ap counts.Black d
-    by-kind (bad s f g) n e again = let o : boolByte (badByte b) ≡ 1 = rw (s, f, g) in absurd (omega arith)
+    on : suc i + d ≡ i + suc d
+    on = omega arith
 
-pub counted-tallied : (bytes : List ℕ) (at : ℕ) (t : Tally) → Tallied bytes at (length bytes) t → t .bad ≡ 0
-    → (n : ℕ) → t .black + t .white ≡ n → counts.Black (t .black) ≡ counted 0 (plainAt bytes n at)
-counted-tallied bytes at t h none n e =
-    let black = numbers-all blackByte bytes at (t .black) (h .black) in
-    let white = numbers-all whiteByte bytes at (t .white) (h .white) in
-    let bad = numbers-all badByte bytes at (t .bad) (h .bad) in
-    let d : 0 + number blackByte (drop at bytes) ≡ t .black = omega arith in
-    sym (counted-numbers (drop at bytes) n at 0 (omega arith) (omega arith) ∙ ap counts.Black d)
+    by-kind : Kind b → (n : ℕ) → ones + zeros ≤ n
+        → ((n c ones zeros : ℕ) → number badByte l ≡ number badByte (drop d l) → number blackByte l ≡ ones + number blackByte (drop d l)
+        → number whiteByte l ≡ zeros + number whiteByte (drop d l) → ones + zeros ≤ n
+        → counted c (plain l n (suc i)) ≡ counted (c + ones) (plain (drop d l) (n - (ones + zeros)) (suc i + d)))
+        → counted c (plain (b ∷ l) n i) ≡ counted (c + ones) (plain (drop d l) (n - (ones + zeros)) (i + suc d))
+    by-kind (blank s o z) n few again =
+        let v : boolByte (badByte b) ≡ 0 = rw s in
+        ap (counted c) (blank-ignored b l n i s)
+        ∙ again n c ones zeros (omega arith) (omega (arith, ap boolByte o)) (omega (arith, ap boolByte z)) few
+        ∙ ap (λ j. counted (c + ones) (plain (drop d l) (n - (ones + zeros)) j)) on
+    by-kind (black g) zero few again = let o : boolByte (blackByte b) ≡ 1 = rw g in absurd (omega (arith, number-drop blackByte d l))
+    by-kind (black g) (suc n) few again =
+        let o : boolByte (blackByte b) ≡ 1 = rw g in
+        let z : boolByte (whiteByte b) ≡ 0 = rw g in
+        let v : boolByte (badByte b) ≡ 0 = rw g in
+        let some : 1 ≤ ones = omega (arith, number-drop blackByte d l) in
+        let x : c + 1 + (ones - 1) ≡ c + ones = omega arith in
+        let y : n - (ones - 1 + zeros) ≡ suc n - (ones + zeros) = omega arith in
+        ap (counted c) (black-first b l n i g) ∙ counted-black c (plain l n (suc i))
+        ∙ again n (c + 1) (ones - 1) zeros (omega arith) (omega arith) (omega arith) (omega arith)
+        ∙ (λ j. counted (x j) (plain (drop d l) (y j) (on j)))
+    by-kind (white g) zero few again = let z : boolByte (whiteByte b) ≡ 1 = rw g in absurd (omega (arith, number-drop whiteByte d l))
+    by-kind (white g) (suc n) few again =
+        let o : boolByte (blackByte b) ≡ 0 = rw g in
+        let z : boolByte (whiteByte b) ≡ 1 = rw g in
+        let v : boolByte (badByte b) ≡ 0 = rw g in
+        let some : 1 ≤ zeros = omega (arith, number-drop whiteByte d l) in
+        let y : n - (ones + (zeros - 1)) ≡ suc n - (ones + zeros) = omega arith in
+        ap (counted c) (white-first b l n i g) ∙ counted-white c (plain l n (suc i))
+        ∙ again n c ones (zeros - 1) (omega arith) (omega arith) (omega arith) (omega arith)
+        ∙ (λ j. counted (c + ones) (plain (drop d l) (y j) (on j)))
+    by-kind (bad s o z) n few again =
+        let v : boolByte (badByte b) ≡ 1 = rw (s, o, z) in
+        absurd (omega (arith, number-drop badByte d l))
 
 -- ---- bytes of which none is a black pixel are white ones, where there is no fault
 white-numbers : (d : ℕ) (l : List ℕ) (n i m : ℕ) (q : List Bool) → d ≤ length l → number blackByte l ≡ number blackByte (drop d l)
@@ -183,17 +182,34 @@ passes-then raster at m i p k to q n l e =
       same = v .same ∙ ap (whites m) (w .same) ∙ whites-more m k (w .rest);
     }
 
-pub passes-part : (bytes : List ℕ) (i to : ℕ) (t : Tally) → i ≤ to → to ≤ length bytes → Tallied bytes i to t → t .black ≡ 0
-    → Passes (plainAt bytes) i (t .white) to
-passes-part bytes i to t before inside h none n l e =
-    let d = to - i in
-    let j : i + d ≡ to = omega arith in
-    let same : drop d (drop i bytes) ≡ drop to bytes = drop-drop d i bytes ∙ ap (λ k. drop k bytes) j in
-    let w = white-numbers d (drop i bytes) n i (t .white) l (omega (arith, length-drop i bytes))
-    (omega (arith, h .black .more, ap (number blackByte) same)) (omega (arith, h .white .more, ap (number whiteByte) same)) e in
-    record {
-      fits = w .fits;
-      rest = w .rest;
-      behind = (λ k. plain (sym same k) (n - t .white) (sym j k)) ∙ w .behind;
-      same = w .same;
-    }
+-- ---- a part of the file
+module _ (bytes : List ℕ) (i to : ℕ) (t : Tally) (before : i ≤ to) (inside : to ≤ length bytes) (h : Tallied bytes i to t) where
+  reached : i + (to - i) ≡ to
+  reached = omega arith
+
+  behind : drop (to - i) (drop i bytes) ≡ drop to bytes
+  behind = drop-drop (to - i) i bytes ∙ ap (λ k. drop k bytes) reached
+
+  long : to - i ≤ length (drop i bytes)
+  long = omega (arith, length-drop i bytes)
+
+  pub counted-part : t .bad ≡ 0 → (n c : ℕ) → t .black + t .white ≤ n
+      → counted c (plainAt bytes n i) ≡ counted (c + t .black) (plainAt bytes (n - (t .black + t .white)) to)
+  counted-part none n c few =
+      counted-numbers (to - i) (drop i bytes) n i c (t .black) (t .white) long
+      (omega (arith, h .bad .more, ap (number badByte) behind))
+      (omega (arith, h .black .more, ap (number blackByte) behind))
+      (omega (arith, h .white .more, ap (number whiteByte) behind))
+      few
+      ∙ (λ k. counted (c + t .black) (plain (behind k) (n - (t .black + t .white)) (reached k)))
+
+  pub passes-part : t .black ≡ 0 → Passes (plainAt bytes) i (t .white) to
+  passes-part none n l e =
+      let w = white-numbers (to - i) (drop i bytes) n i (t .white) l long
+      (omega (arith, h .black .more, ap (number blackByte) behind)) (omega (arith, h .white .more, ap (number whiteByte) behind)) e in
+      record {
+        fits = w .fits;
+        rest = w .rest;
+        behind = (λ k. plain (sym behind k) (n - t .white) (sym reached k)) ∙ w .behind;
+        same = w .same;
+      }

@@ -18,6 +18,7 @@ use Rattle.bitmap.specs.declared.Pixel.the-variants.{Black, White, Fault
 use Rattle.bitmap.specs.declared.Count.{Count}
 use Rattle.bitmap.specs.declared.Count.the-variants as counts
 use Rattle.bitmap.specs.declared.Tally.{Tally}
+use Rattle.bitmap.specs.declared.Rest.{Rest}
 use Rattle.bitmap.specs.declared.Row.{Row}
 use Rattle.bitmap.specs.Bytes.{whiteSpace, hash, digit, Placed, readAt}
 use Rattle.bitmap.specs.Header.{behind, size as sizeOf, greatestSize, sizeThen}
@@ -84,6 +85,10 @@ pub record Tallied (bytes : List ℕ) (from to : ℕ) (t : Tally) : Type 0 where
   pub white : Numbers whiteByte bytes from to (t .white)
   pub bad : Numbers badByte bytes from to (t .bad)
 
+-- how many bytes are tallied at a time
+abbrev pub part : ℕ
+part = 64
+
 -- m white pixels, and others behind them
 abbrev pub whites : ℕ → List Bool → List Bool
 whites zero l = l
@@ -118,6 +123,11 @@ blacks (false ∷ l) = blacks l
 abbrev pub counted : ℕ → Raster → Count
 counted c (pixels l) = counts.Black (c + blacks l)
 counted c (fault number place) = counts.Fault number place
+
+-- what is left of all pixels from a place, behind those that are counted already, however a raster is read
+pub record Leaves (raster : ℕ → ℕ → Raster) (at all : ℕ) (rest : Rest) : Type 0 where
+  pub same : counted (rest .black) (raster (rest .pixels) (rest .at)) ≡ counted 0 (raster all at)
+  pub few : rest .black + rest .pixels ≤ all
 
 -- a raster with no fault and few enough black pixels, of a size in range, and a list with room for the most points
 pub record Writable (raster : Raster) (width all : ℕ) (list : List ℤ) : Type 0 where

@@ -1,14 +1,14 @@
 // Plain bitmaps: the bytes of a picture, checked, and its black pixels as points.
 ghost use mathlib.Core.Path.{_≡_};
 ghost use mathlib.Core.Bool.{true};
-ghost use Prim.Native.Nat.{_+_, _*_, _-_, _≤_, _<_, suc, min};
+ghost use Prim.Native.Nat.{_+_, _*_, _-_, _^_, _≤_, _<_, suc, min};
 ghost use lib.ListN.{length, drop};
 ghost use Rattle.lattice.specs.Room.{holding};
 ghost use Rattle.bitmap.specs.Bytes.{whiteSpace, readIn, readAt};
 ghost use Rattle.bitmap.specs.Header.{starts, behind, inSize, greatestSize, headerOf};
 ghost use Rattle.bitmap.specs.Pixels.{plainAt, blackIn};
 ghost use Rattle.bitmap.specs.Picture.{refused as refusedOf, beginsP1, answerOf, PicturePromise};
-ghost use Rattle.bitmap.specs.Steps.{Settled, Leads, RunAt, Sized, Skips, Fetches, badByte, Tallied, Passes, Begun, RowOf, counted, Writable};
+ghost use Rattle.bitmap.specs.Steps.{Settled, Leads, RunAt, Sized, Skips, Fetches, badByte, part, Tallied, Leaves, Passes, Begun, RowOf, counted, Writable};
 
 // The longest file, the greatest width and height, and the numbers that the list has room for.
 pub const LONGEST: usize = 65536;
@@ -70,6 +70,13 @@ struct Tally {
     black: usize,
     white: usize,
     bad: usize,
+}
+
+// How many black pixels were counted; how many pixels are left, and from which place on.
+struct Rest {
+    black: usize,
+    pixels: usize,
+    at: usize,
 }
 
 // How many white pixels were passed; the place behind them; and a place up to which no part is worth a look.
@@ -271,11 +278,12 @@ fn fetch(bytes: &[u8], at: usize) -> Pixel
     Pixel::Fault(24, i)
 }
 
-// The pixels from a place on, one by one, checked and counted.
-fn check_each(bytes: &[u8], at: usize, pixels: usize) -> Count
-    ensures { λ r. ⌜ r ≡ counted 0 (plainAt (now (bytes .entry)) pixels at) ⌝ }
+// The pixels from a place on, one by one, checked and counted, with the black ones before them.
+fn check_each(bytes: &[u8], at: usize, pixels: usize, before: usize) -> Count
+    requires { ⌜ before + pixels < 2 ^ 64 ⌝ }
+    ensures { λ r. ⌜ r ≡ counted before (plainAt (now (bytes .entry)) pixels at) ⌝ }
 {
-    let mut black: usize = 0;
+    let mut black = before;
     let mut k: usize = 0;
     let mut i = at;
     while k < pixels {
@@ -340,46 +348,60 @@ fn tally_part(bytes: &[u8], from: usize, to: usize) -> Tally
     }
 }
 
-// All bytes from a place on, tallied a part at a time.
-fn tally_all(bytes: &[u8], at: usize) -> Tally
-    requires { ⌜ at ≤ length (now bytes) ⌝ }
-    ensures { λ r. ⌜ Tallied (now (bytes .entry)) at (length (now (bytes .entry))) r ⌝ }
+// Whether a whole part stands at a place.
+fn whole_part(bytes: &[u8], at: usize) -> bool
+    ensures { λ r. ⌜ (r ≡ true → at + part ≤ length (now (bytes .entry))) ⌝ }
+{
+    if at < bytes.len() {
+        return PART <= bytes.len() - at;
+    }
+    false
+}
+
+// Parts with no fault, from a place on, counted.
+fn count_parts(bytes: &[u8], at: usize, pixels: usize) -> Rest
+    ensures { λ r. ⌜ Leaves (plainAt (now (bytes .entry))) at pixels r ⌝ }
 {
     let mut black: usize = 0;
-    let mut white: usize = 0;
-    let mut bad: usize = 0;
+    let mut left = pixels;
     let mut i = at;
-    while PART <= bytes.len() - i {
+    while whole_part(bytes, i) {
         let part = tally_part(bytes, i, i + PART);
+        if 0 < part.bad {
+            return Rest {
+                black,
+                pixels: left,
+                at: i,
+            };
+        }
+        let passed = part.black + part.white;
+        if left < passed {
+            return Rest {
+                black,
+                pixels: left,
+                at: i,
+            };
+        }
         black += part.black;
-        white += part.white;
-        bad += part.bad;
+        left -= passed;
         i += PART;
     }
-    let rest = tally_part(bytes, i, bytes.len());
-    Tally {
-        black: black + rest.black,
-        white: white + rest.white,
-        bad: bad + rest.bad,
+    Rest {
+        black,
+        pixels: left,
+        at: i,
     }
 }
 
-// The pixels from a place on, checked and counted: where no byte is bad and as many as must be are pixels, there is no fault to look for.
+// The pixels from a place on, checked and counted: by parts up to the first fault or the end, and there one by one.
 fn check_pixels(bytes: &[u8], at: usize, pixels: usize) -> Count
     ensures { λ r. ⌜ r ≡ counted 0 (plainAt (now (bytes .entry)) pixels at) ⌝ }
 {
-    if at < bytes.len() {
-        let all = tally_all(bytes, at);
-        if all.bad == 0 {
-            if all.black + all.white == pixels {
-                return Count::Black(all.black);
-            }
-        }
-    }
-    check_each(bytes, at, pixels)
+    let rest = count_parts(bytes, at, pixels);
+    check_each(bytes, rest.at, rest.pixels, rest.black)
 }
 
-// White pixels of a picture with no fault, from a place on, a part at a time, up to a part with a black one, which `until` spares a second look.
+// White pixels of a picture with no fault, from a place on, by parts up to one with a black pixel, which `until` spares a second look.
 fn pass_white(bytes: &[u8], at: usize, until: usize) -> Passed
     ensures { λ r. ⌜ Passes (plainAt (now (bytes .entry))) at (r .pixels) (r .next) ⌝ }
 {
@@ -392,14 +414,7 @@ fn pass_white(bytes: &[u8], at: usize, until: usize) -> Passed
     }
     let mut pixels: usize = 0;
     let mut i = at;
-    while i < bytes.len() {
-        if bytes.len() - i < PART {
-            return Passed {
-                pixels,
-                next: i,
-                until: bytes.len(),
-            };
-        }
+    while whole_part(bytes, i) {
         let part = tally_part(bytes, i, i + PART);
         if 0 < part.black {
             return Passed {
@@ -414,7 +429,7 @@ fn pass_white(bytes: &[u8], at: usize, until: usize) -> Passed
     Passed {
         pixels,
         next: i,
-        until: i,
+        until: bytes.len(),
     }
 }
 

@@ -13,13 +13,13 @@ use Rattle.bitmap.proofs.check_each.Statement.{statement}
 use Rattle.bitmap.proofs.check_each.Tie as tie
 
 abbrev Inv-loop : tie.InvT-loop
-Inv-loop bytes at pixels black₀ k₀ i₀ black k i = Counting (plainAt bytes) at pixels black k i
+Inv-loop bytes at pixels before black₀ k₀ i₀ black k i = Counting (plainAt bytes) at pixels before black k i
 
 abbrev μ-loop : tie.MeasureT-loop
-μ-loop bytes at pixels black₀ k₀ i₀ black k i = pixels - k
+μ-loop bytes at pixels before black₀ k₀ i₀ black k i = pixels - k
 
 loop-holds : tie.Need-loop-holds Inv-loop μ-loop
-loop-holds c = counting-none _ _ _
+loop-holds c = counting-none _ _ _ _
 
 fetch-requires : tie.Need-fetch-requires Inv-loop μ-loop
 fetch-requires c κs = omega arith
@@ -43,7 +43,7 @@ raster c = plainAt (now (c .before .before .args .bytes))
 loop-again : tie.Need-loop-again Inv-loop μ-loop
 loop-again c = let f = c .before .before .before in
     let l = f .before .before in
-    counting-black _ _ _ _ _ _ (l .loop .inv) (f .before .loop-test .taken) _
+    counting-black _ _ _ _ _ _ _ (l .loop .inv) (f .before .loop-test .taken) _
     (subst (Fetches (raster l) (l .loop .i)) (c .before .next .given .1) (f .fetch .ensures))
 
 enum-known-next-2 : tie.Need-enum-known-next-2 Inv-loop μ-loop
@@ -58,7 +58,7 @@ loop-less-2 c = omega arith
 loop-again-2 : tie.Need-loop-again-2 Inv-loop μ-loop
 loop-again-2 c = let f = c .before .before .before in
     let l = f .before .before in
-    counting-white _ _ _ _ _ _ (l .loop .inv) (f .before .loop-test .taken) _
+    counting-white _ _ _ _ _ _ _ (l .loop .inv) (f .before .loop-test .taken) _
     (subst (Fetches (raster l) (l .loop .i)) (c .before .next2 .given .1) (f .fetch .ensures))
 
 enum-known-number : tie.Need-enum-known-number Inv-loop μ-loop
@@ -67,7 +67,7 @@ enum-known-number c = omega arith
 returns : tie.Need-returns Inv-loop μ-loop
 returns c = let f = c .before .before .before in
     let l = f .before .before in
-    counting-fault _ _ _ _ _ _ (l .loop .inv) (f .before .loop-test .taken) _ _
+    counting-fault _ _ _ _ _ _ _ (l .loop .inv) (f .before .loop-test .taken) _ _
     (subst (Fetches (raster l) (l .loop .i)) (c .before .number .given .1) (f .fetch .ensures))
 
 blanks-requires : tie.Need-blanks-requires Inv-loop μ-loop
@@ -75,14 +75,14 @@ blanks-requires c κs = omega arith
 
 returns-2 : tie.Need-returns-2 Inv-loop μ-loop
 returns-2 c = let b = c .before in
-    counting-ends _ _ _ _ _ _ (b .before .before .loop .inv) (b .before .loop-test .left) _
+    counting-ends _ _ _ _ _ _ _ (b .before .before .loop .inv) (b .before .loop-test .left) _
     (b .blanks .ensures .same 0 ∙ left-over _ _ (c .if1 .taken) (b .blanks .ensures .stops (c .if1 .taken)))
 
 returns-3 : tie.Need-returns-3 Inv-loop μ-loop
 returns-3 c = let b = c .before in
     let l = b .before .before in
-    subst (λ n. counts.Black n ≡ counted 0 (raster l (l .before .before .args .pixels) (l .before .before .args .at))) (add-zero (l .loop .black))
-    (counting-ends _ _ _ _ _ _ (l .loop .inv) (b .before .loop-test .left) _ (b .blanks .ensures .same 0 ∙ complete _ _ (c .if1 .left)))
+    subst (λ n. counts.Black n ≡ counted (l .before .before .args .before) (raster l (l .before .before .args .pixels) (l .before .before .args .at))) (add-zero (l .loop .black))
+    (counting-ends _ _ _ _ _ _ _ (l .loop .inv) (b .before .loop-test .left) _ (b .blanks .ensures .same 0 ∙ complete _ _ (c .if1 .left)))
 
 pub check-each-spec : {M : Type 1} → statement M
 check-each-spec =

@@ -4,7 +4,7 @@ use native.Mathlib.Omega.{arith}
 use denote.Ref.{now}
 use lib.ListN.{length}
 use Rattle.bitmap.specs.Pixels.{plainAt}
-use Rattle.bitmap.specs.Steps.{Passes}
+use Rattle.bitmap.specs.Steps.{part, Passes}
 use Rattle.bitmap.proofs.Tallies.{passes-none, passes-then, passes-part}
 use Rattle.bitmap.proofs.pass_white.Statement.{statement}
 use Rattle.bitmap.proofs.pass_white.Tie as tie
@@ -21,44 +21,46 @@ returns c = passes-none _ _
 loop-holds : tie.Need-loop-holds Inv-loop μ-loop
 loop-holds c = (passes-none _ _, omega arith)
 
-sub-if2 : tie.Need-sub-if2 Inv-loop μ-loop
-sub-if2 c = omega arith
+whole-part-requires : tie.Need-whole-part-requires Inv-loop μ-loop
+whole-part-requires c κs = tt
 
-returns-2 : tie.Need-returns-2 Inv-loop μ-loop
-returns-2 c = c .before .before .loop .inv .0
+-- in a turn a whole part stands at the place
+inside : (c : tie.Then2 Inv-loop μ-loop) → let l = c .before .before in
+    l .loop .i + part ≤ length (now (l .before .before .before .args .bytes))
+inside c = c .before .whole-part .ensures (c .if2 .taken)
 
 add-tally-part : tie.Need-add-tally-part Inv-loop μ-loop
-add-tally-part c = omega arith
+add-tally-part c = omega (arith, inside c)
 
 tally-part-requires : tie.Need-tally-part-requires Inv-loop μ-loop
-tally-part-requires c κs = omega arith
+tally-part-requires c κs = omega (arith, inside c)
 
-add-t12 : tie.Need-add-t12 Inv-loop μ-loop
-add-t12 c = omega arith
+add-t11 : tie.Need-add-t11 Inv-loop μ-loop
+add-t11 c = omega (arith, inside (c .before .before .before))
 
-returns-3 : tie.Need-returns-3 Inv-loop μ-loop
-returns-3 c = c .before .before .before .before .before .loop .inv .0
+returns-2 : tie.Need-returns-2 Inv-loop μ-loop
+returns-2 c = c .before .before .before .before .before .loop .inv .0
 
 add-pixels : tie.Need-add-pixels Inv-loop μ-loop
-add-pixels c = omega arith
+add-pixels c = omega (arith, inside (c .before .before .before .before))
 
 add-i : tie.Need-add-i Inv-loop μ-loop
-add-i c = omega arith
+add-i c = omega (arith, inside (c .before .before .before .before))
 
 loop-less : tie.Need-loop-less Inv-loop μ-loop
-loop-less c = omega arith
+loop-less c = omega (arith, inside (c .before .before .before .before))
 
 loop-again : tie.Need-loop-again Inv-loop μ-loop
 loop-again c = let p = c .before .before .before in
     let l = p .before .before .before in
     let s = l .before .before .before in (
       passes-then (plainAt (now (s .args .bytes))) (s .args .at) _ _ (l .loop .inv .0) _ _
-          (passes-part _ _ _ _ (omega arith) (omega arith) (p .tally-part .ensures) (omega arith)),
+          (passes-part _ _ _ _ (omega arith) (inside (p .before)) (p .tally-part .ensures) (omega arith)),
       omega arith,
     )
 
-returns-4 : tie.Need-returns-4 Inv-loop μ-loop
-returns-4 c = c .before .loop .inv .0
+returns-3 : tie.Need-returns-3 Inv-loop μ-loop
+returns-3 c = c .before .before .loop .inv .0
 
 pub pass-white-spec : {M : Type 1} → statement M
 pass-white-spec =
@@ -68,14 +70,13 @@ pass-white-spec =
     μ-loop
     returns
     loop-holds
-    sub-if2
-    returns-2
+    whole-part-requires
     add-tally-part
     tally-part-requires
-    add-t12
-    returns-3
+    add-t11
+    returns-2
     add-pixels
     add-i
     loop-less
     loop-again
-    returns-4)
+    returns-3)
