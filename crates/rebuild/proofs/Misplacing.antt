@@ -1,14 +1,15 @@
 -- Which packed points are corners, which rows have no point of the hull, which points of a row are misplaced. Assumes nothing.
 use mathlib.Core.Path.{_≡_, refl, sym, _∙_, ap, subst}
-use mathlib.Core.Logic.{inl, inr}
+use mathlib.Core.Logic.{_⊎_, inl, inr}
 use mathlib.Core.Bool.{Bool}
 use mathlib.Core.List.{List, [], _∷_, map}
 use Prim.Native.Nat.{ℕ, _+_, _-_, _/_, _%_, _≤_, _<_}
 use native.Mathlib.Omega.{arith}
 use lib.ListN.{length, getD}
 use lib.IntN.{ℤ}
-use Rattle.whole.proofs.Whole.{quote, gap≤, gap<, _⊞_, linear⊥}
-use Rattle.lattice.specs.Point.{Point, InRange, point, In, Pairs, Before}
+use lib.Signed.{_≤ℤ_, _<ℤ_}
+use Rattle.whole.proofs.Whole.{quote, gap≤, gap<, _⊞_, linear⊥, le-or-lt, antisymmetric}
+use Rattle.lattice.specs.Point.{Point, InRange, points, point, In, All, Pairs, Before}
 use Rattle.lattice.specs.Hull.{InHull, member, Of}
 use Rattle.lattice.specs.Refusal.{AtPoint, Misplaced}
 use Rattle.lattice.proofs.Lists.{either}
@@ -16,19 +17,20 @@ use Rattle.lattice.proofs.Places.{lt-or-le, nowhere, all-place, pairs-place}
 use Rattle.lattice.proofs.RowEnds.{inner-of-row-no-corner}
 use Rattle.lattice.proofs.Sandwich.{Spans, corner-list-of-spanned}
 use Rattle.lattice.proofs.CornerLists.{corner-list-shape}
-use Rattle.packed.specs.Packed.{Tells, side, moved, placed, packed, unpacked}
-use Rattle.packed.proofs.RowOrder.{placed-order, placed-grows, unpacked-injective, unpacked-packed, before-packed}
-use Rattle.packed.proofs.Border.{moved-small}
+use Rattle.packed.specs.Packed.{Tells, side, placed, packed, unpacked}
+use Rattle.packed.proofs.RowOrder.{placed-grows, placed-injective, unpacked-injective, unpacked-packed, before-packed}
 use Rattle.packed.proofs.KeyLaws.{unpacked-in, in-unpacked}
 use Rattle.packed.proofs.Tests.{tells-as}
 use Rattle.order.specs.Row.{RunsTo}
-use Rattle.stretch.specs.Stretch.{cell, Within, Peak, Peaked, StretchOf}
+use Rattle.stretch.specs.Stretch.{cell, Within, Peak, StretchOf}
 use Rattle.stretch.specs.declared.Stretch.{Stretch}
 use Rattle.stretch.proofs.Counting.{is-cell-before, is-before-cell}
-use Rattle.walk.specs.Walk.{Cornered}
-use Rattle.walk.proofs.Walking.{nothing, firstRow, lastRow, some, peaked, in-rows}
-use Rattle.rebuild.specs.Looking.{FirstBelow, InOneRow}
-use Rattle.rebuild.proofs.Passing.{Passing}
+use Rattle.walk.specs.Walk.{HullOf, Cornered, CountOf}
+use Rattle.walk.proofs.Walking.{nothing, nothing-listed, firstRow, lastRow, in-rows}
+use Rattle.walk.proofs.Rows.{rows-rise, from-next}
+use Rattle.walk.proofs.Loops.{Counted, counted-none, counted-more, counted-all}
+use Rattle.rebuild.specs.Looking.{FirstBelow, MisplacedAt, InOneRow, EndMisplaced, Sees}
+use Rattle.rebuild.proofs.Passing.{Passing, passing-none, passing-stops, passing-ends}
 
 -- ---- a corner
 module _ (outline : List ℕ) (k i : ℕ) where
@@ -41,38 +43,11 @@ module _ (outline : List ℕ) (k i : ℕ) where
       h .clear (r .0) (omega (arith, r .1)) (sym (unpacked-injective k (getD outline (r .0) 0) (r .2)))
 
 -- ---- no corners
-pub none-inside : (outline : List ℕ) → length outline ≡ 0 → (m : List Point) → FirstBelow (length m) (AtPoint (Misplaced (map unpacked outline)) m) 0
-none-inside outline e m =
-    record { upto = omega arith; earlier = λ j l. nowhere j l; here = λ l. (l, inl (nothing outline e (point m 0))) }
-
--- ---- rows: that of the first corner, those before it, and those behind that of the last corner
-abbrev none : Stretch
-none = record { from = 0; to = 0 }
-
-empty-row : (c : List Point) (y : ℕ) → ((x : ℕ) → InHull (Of c) (cell x y) → ⊥) → StretchOf c y none
-empty-row c y outside = record {
-  rising = omega arith;
-  few = omega arith;
-  inside = λ x w. absurd (never x w);
-  all = λ x l m. absurd (outside x m);
+pub none-inside : (outline : List ℕ) → length outline ≡ 0 → (missing : List ℤ) → Sees outline missing (record { place = 0; lattice = 0 })
+none-inside outline e missing = record {
+  first = record { upto = omega arith; earlier = λ j l. nowhere j l; here = λ l. (l, inl (nothing outline e (point (points missing) 0))) };
+  count = λ l. ([], nothing-listed (HullOf outline) (nothing outline e), refl);
 }
-  where
-    never : (x : ℕ) → Within none x → ⊥
-    never x w = omega (arith, w .to)
-
-module _ (outline : List ℕ) (h : Cornered outline) (peak : ℕ) (g : Peak outline peak) where
-  pub first-row : Peaked outline peak (firstRow outline)
-  first-row = peaked outline h peak g (firstRow outline) (omega arith) (omega (arith, g .greatest 0 (some outline h peak g)))
-
-  pub row-before : (y : ℕ) → y < firstRow outline → StretchOf (map unpacked outline) y none
-  row-before y l = empty-row (map unpacked outline) y (λ x m.
-      linear⊥ (placed y ∷ placed (firstRow outline) ∷ [])
-      (gap≤ (in-rows outline h peak g (cell x y) m .0) ⊞ gap< (placed-order y (firstRow outline) l)) (search quote depth 20) tt)
-
-  pub row-behind : (y : ℕ) → lastRow outline peak < y → StretchOf (map unpacked outline) y none
-  row-behind y l = empty-row (map unpacked outline) y (λ x m.
-      linear⊥ (placed y ∷ placed (lastRow outline peak + 1) ∷ [])
-      (gap< (in-rows outline h peak g (cell x y) m .1) ⊞ placed-grows (lastRow outline peak + 1) y (omega arith)) (search quote depth 20) tt)
 
 -- ---- a point of a row whose stretch is known
 module _ (outline : List ℕ) (h : Cornered outline) (k : ℕ) (s : Stretch) (t : StretchOf (map unpacked outline) (k / side) s) where
@@ -128,75 +103,144 @@ module _ (outline : List ℕ) (h : Cornered outline) (k : ℕ) (s : Stretch) (t 
             (corner-list-of-spanned (first ∷ last ∷ c) c spans .only (unpacked k) i)
 
 -- ---- the points of a row, by place
--- points in range of one row are so when packed
-pub same-row : (p q : Point) → InRange p → InRange q → p .y ≡ q .y → packed p / side ≡ packed q / side
-same-row p q r s e =
-    omega (arith, moved-small (p .x) (r .x-from) (r .x-to), moved-small (q .x) (s .x-from) (s .x-to), ap moved e)
+-- a point in range that is in row y is so when packed
+pub in-row : (p : Point) (y : ℕ) → InRange p → p .y ≡ placed y → packed p / side ≡ y
+in-row p y r e = placed-injective (packed p / side) y (ap (λ q. q .y) (unpacked-packed p r) ∙ e)
 
--- a run of points of row y has the one that it begins with
-pub run-further : (l : List Point) (y : ℤ) (i r : ℕ) → RunsTo l y i r → i < length l → (point l i) .y ≡ y → i < r
-run-further l y i r h k e =
-    either (lt-or-le i r) (λ u. u) (λ u. let d : i ≡ r = omega (arith, h .from) in absurd (h .stops (omega arith) (subst (λ n. (point l n) .y ≡ y) d e)))
+module _ (outline : List ℕ) (s : Stretch) (l : List Point) (begin end : ℕ) (h : InOneRow outline s l begin end) where
+  abbrev Fault : ℕ → Type 0
+  Fault = AtPoint (Misplaced (map unpacked outline)) l
 
-module _ (outline : List ℕ) (s : Stretch) (l : List Point) (first last : ℕ) (h : InOneRow outline s l first last) where
-  range-at : (j : ℕ) → j ≤ last → InRange (point l j)
+  pub range-at : (j : ℕ) → j < end → InRange (point l j)
   range-at j v = all-place InRange l (h .range) j (omega (arith, h .inside))
 
-  pub stretch-at : (j : ℕ) → first ≤ j → j ≤ last → StretchOf (map unpacked outline) (packed (point l j) / side) s
+  pub stretch-at : (j : ℕ) → begin ≤ j → j < end → StretchOf (map unpacked outline) (packed (point l j) / side) s
   stretch-at j u v = subst (λ n. StretchOf (map unpacked outline) n s) (sym (h .same j u v)) (h .stretch)
 
-  unpacked-at-place : (j : ℕ) → j ≤ last → unpacked (packed (point l j)) ≡ point l j
+  unpacked-at-place : (j : ℕ) → j < end → unpacked (packed (point l j)) ≡ point l j
   unpacked-at-place j v = unpacked-packed (point l j) (range-at j v)
 
   -- the packed point that is looked at is the one at a place
-  pub misplaced-at : (j : ℕ) → first ≤ j → j ≤ last → (k : ℕ) → k ≡ packed (point l j) → (b : Bool) → Tells b (Misplaced (map unpacked outline) (unpacked k))
-      → Tells b (AtPoint (Misplaced (map unpacked outline)) l j)
+  pub misplaced-at : (j : ℕ) → begin ≤ j → j < end → (k : ℕ) → k ≡ packed (point l j) → (b : Bool) → Tells b (Misplaced (map unpacked outline) (unpacked k)) → Tells b (Fault j)
   misplaced-at j u v k e b t =
       let f : unpacked k ≡ point l j = ap unpacked e ∙ unpacked-at-place j v in
       tells-as b (λ m. (omega (arith, h .inside), subst (Misplaced (map unpacked outline)) f m)) (λ m. subst (Misplaced (map unpacked outline)) (sym f) (m .1)) t
 
-  module _ (order : Pairs Before l) (n : AtPoint (Misplaced (map unpacked outline)) l first → ⊥) (m : AtPoint (Misplaced (map unpacked outline)) l last → ⊥) where
-    from-first : s .from ≤ packed (point l first) % side
+  module _ (order : Pairs Before l) (some : begin < end) (n : Fault begin → ⊥) (m : Fault (end - 1) → ⊥) where
+    from-first : s .from ≤ packed (point l begin) % side
     from-first =
-        either (lt-or-le (packed (point l first) % side) (s .from))
+        either (lt-or-le (packed (point l begin) % side) (s .from))
         (λ k. absurd (n (
-          omega (arith, h .rising, h .inside),
-          subst (Misplaced (map unpacked outline)) (unpacked-at-place first (h .rising))
-              (left-of-row outline (h .cornered) (packed (point l first)) s (stretch-at first (omega arith) (h .rising)) k),
+          omega (arith, h .inside),
+          subst (Misplaced (map unpacked outline)) (unpacked-at-place begin some)
+              (left-of-row outline (h .cornered) (packed (point l begin)) s (stretch-at begin (omega arith) some) k),
         ))) (λ k. k)
 
-    to-last : packed (point l last) % side < s .to
+    to-last : packed (point l (end - 1)) % side < s .to
     to-last =
-        either (lt-or-le (packed (point l last) % side) (s .to)) (λ k. k)
+        either (lt-or-le (packed (point l (end - 1)) % side) (s .to)) (λ k. k)
         (λ k. absurd (m (
-          h .inside,
-          subst (Misplaced (map unpacked outline)) (unpacked-at-place last (omega arith))
-              (right-of-row outline (h .cornered) (packed (point l last)) s (stretch-at last (h .rising) (omega arith)) k),
+          omega (arith, h .inside),
+          subst (Misplaced (map unpacked outline)) (unpacked-at-place (end - 1) (omega arith))
+              (right-of-row outline (h .cornered) (packed (point l (end - 1))) s (stretch-at (end - 1) (omega arith) (omega arith)) k),
         )))
 
-    between-ends : (j : ℕ) → first < j → j < last → Misplaced (map unpacked outline) (point l j) → ⊥
+    between-ends : (j : ℕ) → begin < j → j < end - 1 → Misplaced (map unpacked outline) (point l j) → ⊥
     between-ends j u v x =
-        let a = before-packed (point l first) (point l j) (range-at first (omega arith)) (range-at j (omega arith)) (pairs-place Before l order first j u (omega (arith, h .inside))) in
-        let b = before-packed (point l j) (point l last) (range-at j (omega arith)) (range-at last (omega arith)) (pairs-place Before l order j last v (h .inside)) in
-        let c = h .same first (omega arith) (omega arith) in
+        let a = before-packed (point l begin) (point l j) (range-at begin some) (range-at j (omega arith)) (pairs-place Before l order begin j u (omega (arith, h .inside))) in
+        let b = before-packed (point l j) (point l (end - 1)) (range-at j (omega arith)) (range-at (end - 1) (omega arith)) (pairs-place Before l order j (end - 1) v (omega (arith, h .inside))) in
+        let c = h .same begin (omega arith) some in
         let d = h .same j (omega arith) (omega arith) in
-        let e = h .same last (omega arith) (omega arith) in
-        let g : packed (point l first) % side < packed (point l j) % side = omega (arith, a, c, d) in
-        let i : packed (point l j) % side < packed (point l last) % side = omega (arith, b, d, e) in
+        let e = h .same (end - 1) (omega arith) (omega arith) in
+        let g : packed (point l begin) % side < packed (point l j) % side = omega (arith, a, c, d) in
+        let i : packed (point l j) % side < packed (point l (end - 1)) % side = omega (arith, b, d, e) in
         inside-row outline (h .cornered) (packed (point l j)) s (stretch-at j (omega arith) (omega arith)) (omega (arith, g, from-first)) (omega (arith, i, to-last))
         (omega (arith, g, from-first)) (omega (arith, i, to-last)) (subst (Misplaced (map unpacked outline)) (sym (unpacked-at-place j (omega arith))) x)
 
     -- where the ends are not misplaced no point is
-    pub row-clear : (j : ℕ) → first ≤ j → j ≤ last → AtPoint (Misplaced (map unpacked outline)) l j → ⊥
+    row-clear : (j : ℕ) → begin ≤ j → j < end → Fault j → ⊥
     row-clear j u v x =
-        either (lt-or-le first j)
-        (λ a. either (lt-or-le j last) (λ b. between-ends j a b (x .1))
-        (λ b. let e : j ≡ last = omega arith in m (subst (AtPoint (Misplaced (map unpacked outline)) l) e x)))
-        (λ a. let e : j ≡ first = omega arith in n (subst (AtPoint (Misplaced (map unpacked outline)) l) e x))
+        either (lt-or-le begin j)
+        (λ a. either (lt-or-le j (end - 1)) (λ b. between-ends j a b (x .1)) (λ b. let e : j ≡ end - 1 = omega arith in m (subst Fault e x)))
+        (λ a. let e : j ≡ begin = omega arith in n (subst Fault e x))
 
-    pub row-passed : (i r : ℕ) → i ≡ first → r ≡ last + 1 → Passing (length l) (AtPoint (Misplaced (map unpacked outline)) l) i
-        → Passing (length l) (AtPoint (Misplaced (map unpacked outline)) l) r
-    row-passed i r e f p = record {
-      upto = omega (arith, h .inside);
-      clear = λ j u. either (lt-or-le j i) (λ v. p .clear j v) (λ v. row-clear j (omega (arith, e, v)) (omega (arith, f, u)));
+  -- past the row
+  pub row-passed : Pairs Before l → ((k : begin < end) → Fault begin ⊎ Fault (end - 1) → ⊥) → Passing (length l) Fault begin → Passing (length l) Fault end
+  row-passed order n p = record {
+    upto = h .inside;
+    clear = λ j v. either (lt-or-le j begin) (λ k. p .clear j k) (λ k. row-clear order (omega arith) (λ f. n (omega arith) (inl f)) (λ f. n (omega arith) (inr f)) j k v);
+  }
+
+-- ---- the rows gone through
+-- p is in a row before the hull's first, or in row y or a later one
+abbrev Ahead : List ℕ → ℕ → Point → Type 0
+Ahead outline y p = (p .y <ℤ placed (firstRow outline)) ⊎ (placed y ≤ℤ p .y)
+
+-- before row y no point is misplaced, up to place `begin`, and the point there, if there is one, is in no row before y of the hull
+pub record Looking (outline : List ℕ) (missing : List ℤ) (last y begin lattice : ℕ) : Type 0 where
+  pub counted : Counted outline last y lattice
+  pub passing : Passing (length (points missing)) (MisplacedAt outline missing) begin
+  pub ahead : begin < length (points missing) → Ahead outline y (point (points missing) begin)
+
+module _ (outline : List ℕ) (missing : List ℤ) (h : Cornered outline) (peak : ℕ) (g : Peak outline peak) where
+  pub looking-none : Looking outline missing (lastRow outline peak) (firstRow outline) 0 0
+  looking-none = record {
+    counted = counted-none outline h peak g;
+    passing = passing-none (length (points missing)) (MisplacedAt outline missing);
+    ahead = λ l. either (le-or-lt (placed (firstRow outline)) ((point (points missing) 0) .y)) (λ k. inr k) (λ k. inl k);
+  }
+
+  module _ (y begin lattice : ℕ) (d : Looking outline missing (lastRow outline peak) y begin lattice) where
+    module _ (order : Pairs Before (points missing)) (range : All InRange (points missing)) (end : ℕ) (r : RunsTo (points missing) (placed y) begin end)
+        (s : Stretch) (t : StretchOf (map unpacked outline) y s) where
+      pub one-row : InOneRow outline s (points missing) begin end
+      one-row = record {
+        cornered = h;
+        range = range;
+        rising = r .from;
+        inside = r .upto;
+        y = y;
+        stretch = t;
+        same = λ j u v. in-row (point (points missing) j) y (all-place InRange (points missing) range j (omega (arith, r .upto))) (r .within j u v);
+      }
+
+      -- the next row's points, if any, are behind
+      later : end < length (points missing) → Ahead outline (y + 1) (point (points missing) end)
+      later l =
+          either (lt-or-le begin end) (λ u. inr (behind (in-order u)))
+          (λ u. let e : begin ≡ end = omega (arith, r .from) in
+          either (subst (λ n. Ahead outline y (point (points missing) n)) e (d .ahead (omega (arith, e, l)))) (λ k. inl k) (λ k. inr (behind k)))
+        where
+          p : Point
+          p = point (points missing) end
+
+          behind : placed y ≤ℤ p .y → placed (y + 1) ≤ℤ p .y
+          behind k = either (le-or-lt (p .y) (placed y)) (λ m. absurd (r .stops l (antisymmetric m k))) (λ m. from-next y (p .y) m)
+
+          in-order : begin < end → placed y ≤ℤ p .y
+          in-order u = subst (λ z. z ≤ℤ p .y) (r .within (end - 1) (omega arith) (omega arith))
+              (rows-rise (point (points missing) (end - 1)) p (pairs-place Before (points missing) order (end - 1) end (omega arith) l))
+
+      pub looking-more : y ≤ lastRow outline peak → (EndMisplaced outline missing begin end → ⊥) → Looking outline missing (lastRow outline peak) (y + 1) end (lattice + (s .to - s .from))
+      looking-more u n = record {
+        counted = counted-more outline h peak g y lattice (d .counted) u s t;
+        passing = row-passed outline s (points missing) begin end one-row order (λ k f. n (record { some = k; which = f })) (d .passing);
+        ahead = later;
+      }
+
+    -- past the last row
+    pub looking-all : lastRow outline peak < y → Sees outline missing (record { place = begin; lattice = lattice })
+    looking-all u = record {
+      first = either (lt-or-le begin (length (points missing)))
+          (λ l. passing-stops (length (points missing)) (MisplacedAt outline missing) begin (d .passing) (l, inl (λ i. outside l i)))
+          (λ l. passing-ends (length (points missing)) (MisplacedAt outline missing) begin (d .passing) l);
+      count = λ l. counted-all outline h peak g y lattice (d .counted) u;
     }
+      where
+        outside : begin < length (points missing) → InHull (Of (map unpacked outline)) (point (points missing) begin) → ⊥
+        outside l i =
+            let p = point (points missing) begin in
+            let w = in-rows outline h peak g p i in
+            either (d .ahead l)
+            (λ k. linear⊥ (p .y ∷ placed (firstRow outline) ∷ []) (gap≤ (w .0) ⊞ gap< k) (search quote depth 20) tt)
+            (λ k. linear⊥ (p .y ∷ placed y ∷ placed (lastRow outline peak + 1) ∷ []) (gap≤ k ⊞ gap< (w .1) ⊞ placed-grows (lastRow outline peak + 1) y (omega arith)) (search quote depth 20) tt)

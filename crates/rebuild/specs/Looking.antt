@@ -1,5 +1,6 @@
 -- What is looked at before a point is written: lists in range, the first place with a fault, the shape of the corners. Assumes nothing.
 use mathlib.Core.Path.{_≡_}
+use mathlib.Core.Logic.{_⊎_}
 use mathlib.Core.List.{List, map}
 use Prim.Native.Nat.{ℕ, _-_, _/_, _≤_, _<_}
 use lib.ListN.{length, getD, take}
@@ -7,13 +8,15 @@ use lib.IntN.{ℤ, pos}
 use lib.Signed.{_<ℤ_}
 use Rattle.lattice.specs.Point.{Point, InRange, most, points, point, All, Before}
 use Rattle.lattice.specs.Hull.{turn}
-use Rattle.lattice.specs.Refusal.{Table, accepted, Gives, AtPoint, Strays, OutOfRange, Misplaced}
+use Rattle.lattice.specs.Refusal.{Table, accepted, Gives, AtPoint, Strays, OutOfRange, Misplaced, rebuildRows}
 use Rattle.packed.specs.Packed.{side, packed, unpacked}
 use Rattle.order.specs.Keys.{Below}
 use Rattle.stretch.specs.Stretch.{StretchOf}
 use Rattle.stretch.specs.declared.Stretch.{Stretch}
-use Rattle.walk.specs.Walk.{Cornered}
+use Rattle.walk.specs.Walk.{HullOf, Cornered, CountOf}
 use Rattle.rebuild.specs.declared.Rebuilt.{Rebuilt}
+use Rattle.rebuild.specs.declared.Seen.{Seen}
+use Rattle.rebuild.specs.declared.Looked.{Looked}
 use Rattle.rebuild.specs.Rebuild.{resultRows, Outcome, pointRows}
 
 -- lists that pass refusals 1 to 3
@@ -61,15 +64,30 @@ MisplacedAt outline missing = AtPoint (Misplaced (map unpacked outline)) (points
 abbrev pub FirstMisplaced : List ℕ → List ℤ → ℕ → Type 0
 FirstMisplaced outline missing = FirstBelow (length (points missing)) (MisplacedAt outline missing)
 
--- the points from place `first` to place `last` are in row y of points in range, whose columns in the hull are those of the stretch
-pub record InOneRow (outline : List ℕ) (s : Stretch) (l : List Point) (first last : ℕ) : Type 0 where
+-- the points from place `begin` to before `end` are in row y, whose columns in the hull are those of the stretch
+pub record InOneRow (outline : List ℕ) (s : Stretch) (l : List Point) (begin end : ℕ) : Type 0 where
   pub cornered : Cornered outline
   pub range : All InRange l
-  pub rising : first ≤ last
-  pub inside : last < length l
+  pub rising : begin ≤ end
+  pub inside : end ≤ length l
   pub y : ℕ
   pub stretch : StretchOf (map unpacked outline) y s
-  pub same : (j : ℕ) → first ≤ j → j ≤ last → packed (point l j) / side ≡ y
+  pub same : (j : ℕ) → begin ≤ j → j < end → packed (point l j) / side ≡ y
+
+-- there are such points, and the first or the last of them is misplaced
+pub record EndMisplaced (outline : List ℕ) (missing : List ℤ) (begin end : ℕ) : Type 0 where
+  pub some : begin < end
+  pub which : MisplacedAt outline missing begin ⊎ MisplacedAt outline missing (end - 1)
+
+-- the first misplaced point; if there is none, also how many lattice points the hull has
+pub record Sees (outline : List ℕ) (missing : List ℤ) (seen : Seen) : Type 0 where
+  pub first : FirstMisplaced outline missing (seen .place)
+  pub count : length (points missing) ≤ seen .place → CountOf (HullOf outline) (seen .lattice)
+
+-- what rows 8 to 10 of the table give, and that number
+pub record LooksOn (outline : List ℕ) (missing : List ℤ) (looked : Looked) : Type 0 where
+  pub rows : Looks (rebuildRows (map unpacked outline) (points missing) accepted) (looked .found)
+  pub count : looked .found .number ≡ 0 → CountOf (HullOf outline) (looked .lattice)
 
 -- the corner at a place
 abbrev pub at : List ℕ → ℕ → Point

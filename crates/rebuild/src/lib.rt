@@ -7,14 +7,13 @@ ghost use Prim.Native.Nat.{_<_, _≤_, _/_};
 ghost use lib.ListN.{length};
 ghost use Rattle.lattice.specs.Point.{InRange, points, point, In, All, Pairs, Before};
 ghost use Rattle.lattice.specs.Hull.{CornerList};
-ghost use Rattle.lattice.specs.Refusal.{accepted, Misplaced, rebuildRows};
+ghost use Rattle.lattice.specs.Refusal.{accepted, Misplaced};
 ghost use Rattle.packed.specs.Packed.{Tells, side, cells, packed as packedOf, unpacked};
 ghost use Rattle.order.specs.Keys.{Below};
 ghost use Rattle.stretch.specs.Stretch.{StretchOf, Peak};
-ghost use Rattle.walk.specs.Walk.{Cornered, Walked};
+ghost use Rattle.walk.specs.Walk.{HullOf, Cornered, Walked, CountOf};
 ghost use Rattle.rebuild.specs.Rebuild.{inputRows, RebuildPromise};
-ghost use Rattle.rebuild.specs.Looking.{Taken, Behind, Resulting, Looks, FirstFrom, FirstOutside, FirstStray, FirstMisplaced, MisplacedAt, InOneRow, Outlines, Follows};
-use stretch::Crossing;
+ghost use Rattle.rebuild.specs.Looking.{Taken, Behind, Resulting, Looks, FirstFrom, FirstOutside, FirstStray, FirstMisplaced, MisplacedAt, InOneRow, EndMisplaced, Sees, LooksOn, Outlines, Follows};
 use stretch::Stretch;
 
 // What Rebuild answers: number and place, 0 and 0 if accepted, and how many points there are.
@@ -23,6 +22,18 @@ pub struct Rebuilt {
     pub number: u32,
     pub place: usize,
     pub points: usize,
+}
+
+// The first misplaced point, and how many lattice points the hull has if there is none.
+struct Seen {
+    place: usize,
+    lattice: u64,
+}
+
+// What refusals 8 to 10 say, and how many lattice points the hull has if they decline nothing.
+struct Looked {
+    found: Rebuilt,
+    lattice: u64,
 }
 
 const SIDE: u32 = 16384;
@@ -199,20 +210,6 @@ fn is_corner(outline: &[u32], k: u32) -> bool
     false
 }
 
-// The columns of row y that lie in the hull; rows before the first corner and behind the last have none.
-fn stretch_of(outline: &[u32], peak: usize, near: Crossing, y: u32) -> Crossing
-    requires { ⌜ Cornered (now outline) × Peak (now outline) peak × (y < side) ⌝ }
-    ensures { λ r. ⌜ StretchOf (map unpacked (now (outline .entry))) y (r .stretch) ⌝ }
-{
-    if y < outline[0] / SIDE {
-        return stretch::start();
-    }
-    if outline[peak] / SIDE < y {
-        return stretch::start();
-    }
-    stretch::of_next(outline, peak, y, near)
-}
-
 // Whether a packed point is outside the corners' hull, or is a corner: only the ends of a row's stretch can be one.
 fn is_misplaced(outline: &[u32], stretch: Stretch, k: u32) -> bool
     requires { ⌜ Cornered (now outline) × StretchOf (map unpacked (now outline)) (k / side) stretch ⌝ }
@@ -239,19 +236,22 @@ fn ends_misplaced(
     outline: &[u32],
     stretch: Stretch,
     missing: &[i32],
-    first: usize,
-    last: usize,
+    begin: usize,
+    end: usize,
 ) -> bool
-    requires { ⌜ InOneRow (now outline) stretch (points (now missing)) first last ⌝ }
-    ensures { λ r. ⌜ Tells r (MisplacedAt (now (outline .entry)) (now (missing .entry)) first ⊎ MisplacedAt (now (outline .entry)) (now (missing .entry)) last) ⌝ }
+    requires { ⌜ InOneRow (now outline) stretch (points (now missing)) begin end ⌝ }
+    ensures { λ r. ⌜ Tells r (EndMisplaced (now (outline .entry)) (now (missing .entry)) begin end) ⌝ }
 {
-    if is_misplaced(outline, stretch, key_at(missing, first)) {
-        return true;
-    }
-    if first == last {
+    if begin == end {
         return false;
     }
-    is_misplaced(outline, stretch, key_at(missing, last))
+    if is_misplaced(outline, stretch, key_at(missing, begin)) {
+        return true;
+    }
+    if begin + 1 == end {
+        return false;
+    }
+    is_misplaced(outline, stretch, key_at(missing, end - 1))
 }
 
 // The first of a row's points that is misplaced, where its first or its last is.
@@ -259,14 +259,14 @@ fn misplaced_in_row(
     outline: &[u32],
     stretch: Stretch,
     missing: &[i32],
-    first: usize,
-    last: usize,
+    begin: usize,
+    end: usize,
 ) -> usize
-    requires { ⌜ InOneRow (now outline) stretch (points (now missing)) first last × (MisplacedAt (now outline) (now missing) first ⊎ MisplacedAt (now outline) (now missing) last) ⌝ }
-    ensures { λ r. ⌜ FirstFrom first (MisplacedAt (now (outline .entry)) (now (missing .entry))) r ⌝ }
+    requires { ⌜ InOneRow (now outline) stretch (points (now missing)) begin end × EndMisplaced (now outline) (now missing) begin end ⌝ }
+    ensures { λ r. ⌜ FirstFrom begin (MisplacedAt (now (outline .entry)) (now (missing .entry))) r ⌝ }
 {
-    let mut i: usize = first;
-    while i < last {
+    let mut i: usize = begin;
+    while i < end - 1 {
         if is_misplaced(outline, stretch, key_at(missing, i)) {
             return i;
         }
@@ -275,34 +275,47 @@ fn misplaced_in_row(
     i
 }
 
-// The first missing point that is misplaced; how many there are if none is. Each row's stretch is looked for once.
-fn misplaced_by_rows(outline: &[u32], peak: usize, missing: &[i32]) -> usize
+// Row by row through the hull: the first missing point that is misplaced, how many there are if none is; then also the hull's lattice points.
+// A point in no row of the hull is the one at which the rows' points end.
+fn misplaced_by_rows(outline: &[u32], peak: usize, missing: &[i32]) -> Seen
     requires { ⌜ Cornered (now outline) × Peak (now outline) peak × All InRange (points (now missing)) × Pairs Before (points (now missing)) ⌝ }
-    ensures { λ r. ⌜ FirstMisplaced (now (outline .entry)) (now (missing .entry)) r ⌝ }
+    ensures { λ r. ⌜ Sees (now (outline .entry)) (now (missing .entry)) r ⌝ }
 {
-    let n = missing.len() / 2;
+    let last = outline[peak] / SIDE;
     let mut crossing = stretch::start();
-    let mut i: usize = 0;
-    while i < n {
-        let k = key_at(missing, i);
-        crossing = stretch_of(outline, peak, crossing, k / SIDE);
+    let mut lattice: u64 = 0;
+    let mut begin: usize = 0;
+    let mut y = outline[0] / SIDE;
+    while y <= last {
+        crossing = stretch::of_next(outline, peak, y, crossing);
         let stretch = crossing.stretch;
-        let end = walk::end_of_row(missing, packed::row(k), i);
-        if ends_misplaced(outline, stretch, missing, i, end - 1) {
-            return misplaced_in_row(outline, stretch, missing, i, end - 1);
+        let end = walk::end_of_row(missing, packed::placed(y), begin);
+        if ends_misplaced(outline, stretch, missing, begin, end) {
+            return Seen {
+                place: misplaced_in_row(outline, stretch, missing, begin, end),
+                lattice: 0,
+            };
         }
-        i = end;
+        lattice += (stretch.to - stretch.from) as u64;
+        begin = end;
+        y += 1;
     }
-    i
+    Seen {
+        place: begin,
+        lattice,
+    }
 }
 
-// The first missing point that is outside the corners' hull or is a corner; how many there are if none is.
-fn first_misplaced(outline: &[u32], missing: &[i32]) -> usize
+// The first missing point that is outside the corners' hull or is a corner; how many there are if none is, and the hull's lattice points.
+fn first_misplaced(outline: &[u32], missing: &[i32]) -> Seen
     requires { ⌜ Cornered (now outline) × All InRange (points (now missing)) × Pairs Before (points (now missing)) ⌝ }
-    ensures { λ r. ⌜ FirstMisplaced (now (outline .entry)) (now (missing .entry)) r ⌝ }
+    ensures { λ r. ⌜ Sees (now (outline .entry)) (now (missing .entry)) r ⌝ }
 {
     if outline.len() == 0 {
-        return 0;
+        return Seen {
+            place: 0,
+            lattice: 0,
+        };
     }
     misplaced_by_rows(outline, walk::peak(outline), missing)
 }
@@ -347,35 +360,48 @@ fn refusal_of_lists(corners: &[i32], missing: &[i32]) -> Rebuilt
 }
 
 // Refusals 8, 9 and 10 of points in range; number 0 if there is none.
-fn refusal_of_points(outline: &[u32], missing: &[i32]) -> Rebuilt
+fn refusal_of_points(outline: &[u32], missing: &[i32]) -> Looked
     requires { ⌜ Below (now outline) × All InRange (points (now missing)) ⌝ }
-    ensures { λ r. ⌜ Looks (rebuildRows (map unpacked (now (outline .entry))) (points (now (missing .entry))) accepted) r ⌝ }
+    ensures { λ r. ⌜ LooksOn (now (outline .entry)) (now (missing .entry)) r ⌝ }
 {
     let n = missing.len() / 2;
     if !is_corner_list(outline) {
-        return declined(8, 0);
+        return Looked {
+            found: declined(8, 0),
+            lattice: 0,
+        };
     }
     let stray = first_stray(missing);
     if stray < n {
-        return declined(9, stray);
+        return Looked {
+            found: declined(9, stray),
+            lattice: 0,
+        };
     }
-    let point = first_misplaced(outline, missing);
-    if point < n {
-        return declined(10, point);
+    let seen = first_misplaced(outline, missing);
+    let place = seen.place;
+    if place < n {
+        return Looked {
+            found: declined(10, place),
+            lattice: 0,
+        };
     }
-    Rebuilt {
-        number: 0,
-        place: 0,
-        points: 0,
+    Looked {
+        found: Rebuilt {
+            number: 0,
+            place: 0,
+            points: 0,
+        },
+        lattice: seen.lattice,
     }
 }
 
 // Refusals 11 and 12, or the points that result at the front of the room.
-fn result(outline: &[u32], missing: &[i32], room: &mut [i32]) -> Rebuilt
-    requires { ⌜ Walked (now outline) (now missing) ⌝ }
+fn result(outline: &[u32], missing: &[i32], lattice: u64, room: &mut [i32]) -> Rebuilt
+    requires { ⌜ Walked (now outline) (now missing) × CountOf (HullOf (now outline)) lattice ⌝ }
     ensures { λ r. ⌜ Resulting (now (outline .entry)) (now (missing .entry)) (now (room .entry)) r (now (room .exit)) ⌝ }
 {
-    let count = walk::count(outline) - (missing.len() / 2) as u64;
+    let count = lattice - (missing.len() / 2) as u64;
     if count > packed::MOST as u64 {
         return declined(11, 0);
     }
@@ -397,12 +423,13 @@ fn rebuild_in(corners: &[i32], missing: &[i32], room: &mut [i32], outline: &mut 
 {
     pack(corners, outline);
     let n = corners.len() / 2;
-    let found = refusal_of_points(&outline[..n], missing);
+    let looked = refusal_of_points(&outline[..n], missing);
+    let found = looked.found;
     let number = found.number;
     if number != 0 {
         return found;
     }
-    result(&outline[..n], missing, room)
+    result(&outline[..n], missing, looked.lattice, room)
 }
 
 // Rebuild with as much working space as the corners ask for: what a call zeroes is what it costs a small grain.

@@ -57,7 +57,7 @@ module _ (corners : List ℕ) where
     peaking-all l = record { inside = h .inside; greatest = λ j u. h .greatest j (omega arith) }
 
 -- ---- the end of a row
-rows-rise : (a b : Point) → Before a b → a .y ≤ℤ b .y
+pub rows-rise : (a b : Point) → Before a b → a .y ≤ℤ b .y
 rows-rise a b (row h) = le-of-lt h
 rows-rise a b (column e h) = le-of-equal e
 

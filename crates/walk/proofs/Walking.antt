@@ -1,15 +1,15 @@
 -- The rows of a hull gone through, from that of its first corner to that of its last: the points that have P in the rows passed, listed
 -- and none of them. Assumes nothing.
-use mathlib.Core.Path.{_≡_, refl, sym, _∙_, ap, subst, subst₂}
+use mathlib.Core.Path.{_≡_, sym, _∙_, ap, subst, subst₂}
 use mathlib.Core.Logic.{inl, inr}
 use mathlib.Core.List.{List, [], _∷_, _++_, map}
 use Prim.Native.Nat.{ℕ, zero, suc, _+_, _-_, _/_, _≤_, _<_}
 use native.Mathlib.Omega.{arith}
-use lib.ListN.{length, getD, length-append, length-map}
+use lib.ListN.{length, getD, length-map}
 use lib.IntN.{ℤ, pos, _+ℤ_}
 use lib.Signed.{_≤ℤ_, _<ℤ_}
 use Rattle.whole.proofs.Whole.{ring, quote, gap≤, gap<, _⊞_, _⋆≡_, linear≤, linear<, linear⊥, le-of-equal}
-use Rattle.lattice.specs.Point.{Point, least, InRange, points, point, In, Before, row, Lists}
+use Rattle.lattice.specs.Point.{Point, least, InRange, points, In, Before, row, Lists}
 use Rattle.lattice.specs.Hull.{member, segment, triangle, Of}
 use Rattle.lattice.proofs.Lists.{either, all-in}
 use Rattle.lattice.proofs.Decide.{both, equal?, kept?}
@@ -17,13 +17,13 @@ use Rattle.lattice.proofs.CornerLists.{corner-list-test}
 use Rattle.lattice.proofs.Frame.{Framed, hull-framed, hull-in-range}
 use Rattle.lattice.proofs.RowKey.{rangeWidth}
 use Rattle.lattice.proofs.RowLists.{lists-exist}
-use Rattle.lattice.proofs.SameMembers.{lists-same, lists-one, lists-append}
+use Rattle.lattice.proofs.SameMembers.{lists-same, lists-append}
 use Rattle.packed.specs.Packed.{side, moved, placed, unpacked}
 use Rattle.packed.proofs.Border.{moved-small}
 use Rattle.packed.proofs.KeyLaws.{unpacked-at, in-unpacked}
 use Rattle.packed.proofs.RowOrder.{unpacked-in-range, unpacked-before, placed-order, placed-grows}
 use Rattle.order.specs.Row.{Holds}
-use Rattle.stretch.specs.Stretch.{cell, Within, StretchOf, Peak, Peaked}
+use Rattle.stretch.specs.Stretch.{StretchOf, Peak, Peaked}
 use Rattle.stretch.specs.declared.Stretch.{Stretch}
 use Rattle.walk.specs.Walk.{HullOf, Cornered, Walked, Lacking, RowPoints, Gap}
 use Rattle.walk.proofs.Rows.{part, part-in, in-part, in-cell, row-next, next-row, row-points}

@@ -1,15 +1,13 @@
 -- `rebuild::first_misplaced` meets its contract: no corners, or what the loop finds. Assumes nothing.
-use borrow.Author.Needs.{needs}
 use Rattle.rebuild.proofs.first_misplaced.Statement.{statement}
 use Rattle.rebuild.proofs.first_misplaced.Tie as tie
 use borrow.Author.Needs.{needs}
 use denote.Ref.{now}
-use Rattle.lattice.specs.Point.{points}
 use Rattle.rebuild.proofs.Misplacing.{none-inside}
 
 returns : tie.Need-returns
 returns c = let a = c .before .before in
-    none-inside (now (a .args .outline)) (c .if1 .taken) (points (now (a .args .missing)))
+    none-inside (now (a .args .outline)) (c .if1 .taken) (now (a .args .missing))
 
 peak-requires : tie.Need-peak-requires
 peak-requires c κs = search needs

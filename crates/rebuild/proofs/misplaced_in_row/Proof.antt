@@ -1,47 +1,44 @@
 -- `rebuild::misplaced_in_row` meets its contract: a turn of the loop passes one point more. Assumes nothing.
 use Rattle.rebuild.proofs.misplaced_in_row.Statement.{statement}
 use Rattle.rebuild.proofs.misplaced_in_row.Tie as tie
-use Prim.Native.Nat.{_<_, _≤_, _-_, _/_}
+use Prim.Native.Nat.{_<_, _-_, _/_}
 use mathlib.Core.Path.{sym, subst}
 use mathlib.Core.List.{map}
 use native.Mathlib.Omega.{arith}
 use denote.Ref.{now}
-use lib.ListN.{length}
-use Rattle.lattice.specs.Point.{InRange, points}
-use Rattle.lattice.proofs.Places.{all-place}
 use Rattle.packed.specs.Packed.{side, unpacked}
 use Rattle.packed.proofs.Tests.{tells-yes, tells-no}
 use Rattle.stretch.specs.Stretch.{StretchOf}
 use Rattle.rebuild.specs.Looking.{MisplacedAt}
 use Rattle.rebuild.proofs.Passing.{Going, going-none, going-more, going-stops, going-ends}
-use Rattle.rebuild.proofs.Misplacing.{stretch-at, misplaced-at}
+use Rattle.rebuild.proofs.Misplacing.{range-at, stretch-at, misplaced-at}
 
 abbrev Inv-loop : tie.InvT-loop
-Inv-loop outline stretch missing first last i₀ i = Going first last (MisplacedAt outline missing) i
+Inv-loop outline stretch missing begin end i₀ i = Going begin (end - 1) (MisplacedAt outline missing) i
 
 abbrev μ-loop : tie.MeasureT-loop
-μ-loop outline stretch missing first last i₀ i = last - i
+μ-loop outline stretch missing begin end i₀ i = end - 1 - i
 
 loop-holds : tie.Need-loop-holds Inv-loop μ-loop
-loop-holds c = going-none _ _ _ (c .before .pre .0 .rising)
+loop-holds c = going-none _ _ _ (omega (arith, c .before .pre .1 .some))
 
--- in a turn the place is one of the list's
-inside : (c : tie.In-loop Inv-loop μ-loop) → c .before .loop .i < length (points (now (c .before .before .before .args .missing)))
-inside c = omega (arith, c .loop-test .taken, c .before .before .before .pre .0 .inside)
+sub-loop : tie.Need-sub-loop Inv-loop μ-loop
+sub-loop c = omega (arith, c .before .before .pre .1 .some)
+
+-- in a turn the place is one of the row's
+inside : (c : tie.In-loop Inv-loop μ-loop) → c .before .loop .i < c .before .before .before .args .end
+inside c = omega (arith, c .loop-test .taken)
 
 key-at-requires : tie.Need-key-at-requires Inv-loop μ-loop
-key-at-requires c κs = let l = c .before in
-    (inside c, all-place InRange (points (now (l .before .before .args .missing))) (l .before .before .pre .0 .range) (l .loop .i) (inside c))
-
-upto : (c : tie.In-loop Inv-loop μ-loop) → c .before .loop .i ≤ c .before .before .before .args .last
-upto c = omega (arith, c .loop-test .taken)
+key-at-requires c κs = let a = c .before .before .before in
+    (omega (arith, inside c, a .pre .0 .inside), range-at _ _ _ _ _ (a .pre .0) _ (inside c))
 
 is-misplaced-requires : tie.Need-is-misplaced-requires Inv-loop μ-loop
 is-misplaced-requires c κs = let l = c .before .before in
     let a = l .before .before in (
       a .pre .0 .cornered,
       subst (λ n. StretchOf (map unpacked (now (a .args .outline))) (n / side) (a .args .stretch)) (sym (c .key-at .ensures .0))
-          (stretch-at _ _ _ _ _ (a .pre .0) _ (l .loop .inv .from) (upto (c .before))),
+          (stretch-at _ _ _ _ _ (a .pre .0) _ (l .loop .inv .from) (inside (c .before))),
     )
 
 returns : tie.Need-returns Inv-loop μ-loop
@@ -49,7 +46,7 @@ returns c = let k = c .before .before in
     let l = k .before .before in
     let a = l .before .before in
     going-stops _ _ _ _ (l .loop .inv)
-    (tells-yes (c .if1 .taken) (misplaced-at _ _ _ _ _ (a .pre .0) _ (l .loop .inv .from) (upto (k .before)) _ (k .key-at .ensures .0) (c .before .is-misplaced .result) (c .before .is-misplaced .ensures)))
+    (tells-yes (c .if1 .taken) (misplaced-at _ _ _ _ _ (a .pre .0) _ (l .loop .inv .from) (inside (k .before)) _ (k .key-at .ensures .0) (c .before .is-misplaced .result) (c .before .is-misplaced .ensures)))
 
 add-i : tie.Need-add-i Inv-loop μ-loop
 add-i c = omega (arith, c .before .before .before .loop-test .taken)
@@ -62,11 +59,11 @@ loop-again c = let k = c .before .before in
     let l = k .before .before in
     let a = l .before .before in
     going-more _ _ _ _ (l .loop .inv) (k .before .loop-test .taken)
-    (tells-no (c .if1 .left) (misplaced-at _ _ _ _ _ (a .pre .0) _ (l .loop .inv .from) (upto (k .before)) _ (k .key-at .ensures .0) (c .before .is-misplaced .result) (c .before .is-misplaced .ensures)))
+    (tells-no (c .if1 .left) (misplaced-at _ _ _ _ _ (a .pre .0) _ (l .loop .inv .from) (inside (k .before)) _ (k .key-at .ensures .0) (c .before .is-misplaced .result) (c .before .is-misplaced .ensures)))
 
 returns-2 : tie.Need-returns-2 Inv-loop μ-loop
 returns-2 c = let l = c .before in
-    going-ends _ _ _ _ (l .loop .inv) (c .loop-test .left) (l .before .before .pre .1)
+    going-ends _ _ _ _ (l .loop .inv) (c .loop-test .left) (l .before .before .pre .1 .which)
 
 pub misplaced-in-row-spec : {M : Type 1} → statement M
 misplaced-in-row-spec =
@@ -75,6 +72,7 @@ misplaced-in-row-spec =
     Inv-loop
     μ-loop
     loop-holds
+    sub-loop
     key-at-requires
     is-misplaced-requires
     returns

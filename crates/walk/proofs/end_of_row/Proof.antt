@@ -3,11 +3,9 @@ use Rattle.walk.proofs.end_of_row.Statement.{statement}
 use Rattle.walk.proofs.end_of_row.Tie as tie
 use Prim.Native.Nat.{_-_, _<_}
 use mathlib.Core.Path.{_≡_, sym, _∙_, ap, subst}
-use mathlib.Core.List.{List}
 use native.Mathlib.Omega.{arith}
 use denote.Ref.{now}
 use lib.ListN.{length}
-use lib.IntN.{ℤ}
 use mir.Syntax.{w32}
 use mir.Val.{toZ, ofZ}
 use Rattle.lattice.specs.Point.{points, point}

@@ -1,13 +1,13 @@
 -- `walk::later_in_row` meets its contract: a turn of the loop doubles the step. Assumes nothing.
 use Rattle.walk.proofs.later_in_row.Statement.{statement}
 use Rattle.walk.proofs.later_in_row.Tie as tie
-use Prim.Native.Nat.{_-_, _<_, _≤_, _*_, _+_}
-use mathlib.Core.Path.{_≡_, sym, _∙_, ap}
+use Prim.Native.Nat.{_-_, _<_, _≤_, _+_}
+use mathlib.Core.Path.{sym, _∙_, ap}
 use native.Mathlib.Omega.{arith}
 use denote.Ref.{now}
 use lib.ListN.{length}
 use mir.Syntax.{w32}
-use mir.Val.{toZ, ofZ}
+use mir.Val.{toZ}
 use Rattle.lattice.specs.Point.{points}
 use Rattle.lattice.proofs.Numbers.{points-length}
 use Rattle.packed.proofs.Tests.{read-back}

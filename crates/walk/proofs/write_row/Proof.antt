@@ -1,7 +1,7 @@
 -- `walk::write_row` meets its contract: a turn of the loop fills one gap more and passes the neighbours behind it. Assumes nothing.
 use Rattle.walk.proofs.write_row.Statement.{statement}
 use Rattle.walk.proofs.write_row.Tie as tie
-use Prim.Native.Nat.{ℕ, _-_, _<_, _≤_, _+_, _*_}
+use Prim.Native.Nat.{ℕ, _-_, _<_, _≤_, _*_}
 use mathlib.Core.Path.{_≡_}
 use native.Mathlib.Omega.{arith}
 use denote.Ref.{now}
