@@ -1,92 +1,141 @@
-//! Answers of another program against this program's own, line by line, with
-//! counts by call and by kind of outcome.
+//! Answers of another program against this program's own, one by one up to the
+//! first difference.
 
+use crate::counts::Counts;
 use crate::form::Request;
-use std::collections::BTreeMap;
+use crate::generate::Made;
 use std::io::{self, BufRead};
 
-/// How often each outcome was met, by call.
-#[derive(Default)]
-pub struct Counts {
-    by_call: BTreeMap<(&'static str, String), usize>,
-    pub compared: usize,
+/// A request as it is sent, with the kind that made it if that is known.
+pub struct Asked {
+    pub request: Request,
+    pub line: String,
+    pub kind: Option<&'static str>,
+}
+
+impl Asked {
+    pub fn of(request: Request) -> Asked {
+        Asked {
+            line: request.line(),
+            request,
+            kind: None,
+        }
+    }
+
+    pub fn made(made: Made) -> Asked {
+        Asked {
+            kind: Some(made.kind.name),
+            ..Asked::of(made.request)
+        }
+    }
+
+    /// The request of a line, or what is wrong with it.
+    pub fn read(line: String) -> Result<Asked, String> {
+        Ok(Asked {
+            request: Request::read(&line)?,
+            line,
+            kind: None,
+        })
+    }
+}
+
+/// A request that shows a difference; nothing where no request belongs to it.
+#[derive(Clone, Debug)]
+pub struct Difference {
+    pub request: Option<Request>,
+    pub kind: Option<&'static str>,
+    pub expected: String,
+    pub found: String,
+}
+
+impl Difference {
+    pub fn text(&self) -> String {
+        let request = match &self.request {
+            Some(request) => request.line(),
+            None => "(no request)".to_string(),
+        };
+        let word = first_different_word(&self.expected, &self.found);
+        format!(
+            "request:  {request}\nexpected: {}\nfound:    {}\nthe answers differ first in word {word}\n",
+            self.expected, self.found
+        )
+    }
+}
+
+/// Counted from 1.
+fn first_different_word(expected: &str, found: &str) -> usize {
+    let same = |(one, other): &(&str, &str)| one == other;
+    let words = expected.split(' ').zip(found.split(' '));
+    1 + words.take_while(same).count()
 }
 
 /// Why a comparison stopped before the end.
 #[derive(Debug)]
 pub enum Stop {
-    /// The first difference, with the line that shows it.
-    Different {
-        line: usize,
-        request: String,
-        expected: String,
-        found: String,
-    },
-    /// A file cannot be read, or a line is no request.
+    Different(Box<Difference>),
+    /// A file cannot be read, a line is no request, a program does not run.
     Unreadable(String),
 }
 
-impl Counts {
-    fn add(&mut self, call: &'static str, outcome: String) {
-        *self.by_call.entry((call, outcome)).or_default() += 1;
-        self.compared += 1;
-    }
-
-    /// One line for each call and outcome, and one for each outcome of all calls.
-    pub fn text(&self) -> String {
-        let mut text = String::new();
-        let mut by_outcome: BTreeMap<&str, usize> = BTreeMap::new();
-        for ((call, outcome), count) in &self.by_call {
-            text += &format!("{call:10}{outcome:32}{count:10}\n");
-            *by_outcome.entry(outcome).or_default() += count;
-        }
-        for (outcome, count) in by_outcome {
-            text += &format!("{:10}{outcome:32}{count:10}\n", "all calls");
-        }
-        text
-    }
-}
-
-/// Compares until the first difference; `counts` holds what agreed so far.
+/// Compares the files of requests and of answers until the first difference;
+/// `counts` holds what agreed so far.
 pub fn compare(
     mut requests: impl BufRead,
     mut answers: impl BufRead,
     counts: &mut Counts,
 ) -> Result<(), Stop> {
-    let mut line = 0;
-    loop {
-        line += 1;
-        let request_line = next_line(&mut requests).map_err(unreadable)?;
-        let answer_line = next_line(&mut answers).map_err(unreadable)?;
-        let Some(request_line) = request_line else {
-            return match answer_line {
-                None => Ok(()),
-                Some(found) => Err(Stop::Different {
-                    line,
-                    request: "(no request)".to_string(),
-                    expected: "(no answer)".to_string(),
-                    found,
-                }),
-            };
-        };
-        let request = Request::read(&request_line)
-            .map_err(|fault| Stop::Unreadable(format!("request line {line}: {fault}")))?;
-        let answer = request.answer();
-        let expected = answer.line();
-        if answer_line.as_ref() != Some(&expected) {
-            return Err(Stop::Different {
-                line,
-                request: request_line,
-                expected,
-                found: answer_line.unwrap_or_else(|| "(no answer)".to_string()),
-            });
-        }
-        counts.add(request.call_name(), answer.outcome());
+    while let Some(line) = next_line(&mut requests)? {
+        let number = counts.compared + 1;
+        let asked = Asked::read(line)
+            .map_err(|fault| Stop::Unreadable(format!("request line {number}: {fault}")))?;
+        compare_next(&asked, &mut answers, counts)?;
+    }
+    compare_end(&mut answers)
+}
+
+/// Compares the next answer with this program's own.
+pub fn compare_next(
+    asked: &Asked,
+    answers: &mut impl BufRead,
+    counts: &mut Counts,
+) -> Result<(), Stop> {
+    let found = next_line(answers)?;
+    let answer = asked.request.answer();
+    let expected = answer.line();
+    if found.as_ref() == Some(&expected) {
+        counts.add(asked, &expected, answer.outcome());
+        return Ok(());
+    }
+    Err(Stop::Different(Box::new(Difference {
+        request: Some(asked.request.clone()),
+        kind: asked.kind,
+        expected,
+        found: found.unwrap_or_else(|| "(no answer)".to_string()),
+    })))
+}
+
+/// No answer is left over.
+pub fn compare_end(answers: &mut impl BufRead) -> Result<(), Stop> {
+    match next_line(answers)? {
+        None => Ok(()),
+        Some(found) => Err(left_over("(no answer)", found)),
     }
 }
 
-fn unreadable(fault: io::Error) -> Stop {
-    Stop::Unreadable(fault.to_string())
+/// Something that belongs to no request.
+pub fn left_over(expected: &str, found: String) -> Stop {
+    Stop::Different(Box::new(Difference {
+        request: None,
+        kind: None,
+        expected: expected.to_string(),
+        found,
+    }))
+}
+
+impl From<io::Error> for Stop {
+    fn from(fault: io::Error) -> Stop {
+        Stop::Unreadable(fault.to_string())
+    }
 }
 
 /// The next line without its LF; none at the end of the file.

@@ -5,7 +5,50 @@ use crate::calls::{self, Centroid, Figures, Verdict};
 use crate::point::{point, Point};
 use crate::program;
 use crate::refusal::{refusal, Refusal};
-use std::fmt::{Display, Write};
+use std::fmt::{self, Display, Write};
+
+/// The calls, in the order of their numbers.
+#[derive(Clone, Copy, PartialEq, Eq, PartialOrd, Ord, Hash, Debug)]
+pub enum Call {
+    Order,
+    Hull,
+    Verdict,
+    Report,
+    RowEnds,
+    Row,
+    Rebuild,
+    Figures,
+    Picture,
+}
+
+impl Call {
+    pub const ALL: [Call; 9] = [
+        Call::Order,
+        Call::Hull,
+        Call::Verdict,
+        Call::Report,
+        Call::RowEnds,
+        Call::Row,
+        Call::Rebuild,
+        Call::Figures,
+        Call::Picture,
+    ];
+
+    /// The name of the call, as document 01 has it.
+    pub fn name(self) -> &'static str {
+        match self {
+            Call::Order => "Order",
+            Call::Hull => "Hull",
+            Call::Verdict => "Verdict",
+            Call::Report => "Report",
+            Call::RowEnds => "Row ends",
+            Call::Row => "Row",
+            Call::Rebuild => "Rebuild",
+            Call::Figures => "Figures",
+            Call::Picture => "Picture",
+        }
+    }
+}
 
 /// A room of `length` numbers that holds `first`, `first` + 1, and so on.
 #[derive(Clone, Copy, PartialEq, Eq, Debug)]
@@ -261,18 +304,17 @@ impl Request {
         }
     }
 
-    /// The name of the call, as document 01 has it.
-    pub fn call_name(&self) -> &'static str {
+    pub fn call(&self) -> Call {
         match self {
-            Request::Order { .. } => "Order",
-            Request::Hull { .. } => "Hull",
-            Request::Verdict { .. } => "Verdict",
-            Request::Report { .. } => "Report",
-            Request::RowEnds { .. } => "Row ends",
-            Request::Row { .. } => "Row",
-            Request::Rebuild { .. } => "Rebuild",
-            Request::Figures { .. } => "Figures",
-            Request::Picture { .. } => "Picture",
+            Request::Order { .. } => Call::Order,
+            Request::Hull { .. } => Call::Hull,
+            Request::Verdict { .. } => Call::Verdict,
+            Request::Report { .. } => Call::Report,
+            Request::RowEnds { .. } => Call::RowEnds,
+            Request::Row { .. } => Call::Row,
+            Request::Rebuild { .. } => Call::Rebuild,
+            Request::Figures { .. } => Call::Figures,
+            Request::Picture { .. } => Call::Picture,
         }
     }
 
@@ -371,41 +413,58 @@ impl Request {
     }
 }
 
+/// What became of a call, for counting. Refusals sort by number.
+#[derive(Clone, Copy, PartialEq, Eq, PartialOrd, Ord, Hash, Debug)]
+pub enum Outcome {
+    Accepted,
+    /// Accepted, with the case of an answer that has several.
+    Case(&'static str),
+    Refused(u32),
+}
+
+impl Display for Outcome {
+    fn fmt(&self, form: &mut fmt::Formatter) -> fmt::Result {
+        match self {
+            Outcome::Accepted => form.pad("accepted"),
+            Outcome::Case(case) => form.pad(&format!("accepted, {case}")),
+            Outcome::Refused(number) => form.pad(&format!("refusal {number:2}")),
+        }
+    }
+}
+
 impl Answer {
-    /// The kind of outcome, for counting: accepted, or the refusal's number.
-    pub fn outcome(&self) -> String {
-        let refused_or = |number: u32, accepted: &str| match number {
-            0 => accepted.to_string(),
-            _ => refused(number),
+    pub fn outcome(&self) -> Outcome {
+        let refused_or = |number: u32, accepted: Outcome| match number {
+            0 => accepted,
+            _ => Outcome::Refused(number),
         };
         let named = |verdict: Verdict| match verdict {
-            Verdict::No => "accepted, no",
-            _ => "accepted, yes",
+            Verdict::No => Outcome::Case("no"),
+            _ => Outcome::Case("yes"),
         };
         match self {
             Answer::Order { number, .. }
             | Answer::Hull { number, .. }
-            | Answer::Rebuild { number, .. } => refused_or(*number, "accepted"),
+            | Answer::Rebuild { number, .. } => refused_or(*number, Outcome::Accepted),
             Answer::Verdict {
                 number, verdict, ..
             }
             | Answer::Report {
                 number, verdict, ..
             } => refused_or(*number, named(*verdict)),
-            Answer::RowEnds { begin, end } if begin < end => "accepted, points".to_string(),
-            Answer::RowEnds { begin: 0, .. } => "accepted, empty at the start".to_string(),
-            Answer::RowEnds { .. } => "accepted, empty further on".to_string(),
-            Answer::Row { part } if part.is_empty() => "accepted, empty".to_string(),
-            Answer::Row { .. } => "accepted, points".to_string(),
+            Answer::RowEnds { begin, end } if begin < end => Outcome::Case("points"),
+            Answer::RowEnds { begin: 0, .. } => Outcome::Case("empty at start"),
+            Answer::RowEnds { .. } => Outcome::Case("empty further on"),
+            Answer::Row { part } if part.is_empty() => Outcome::Case("empty"),
+            Answer::Row { .. } => Outcome::Case("points"),
             Answer::Figures { figures, .. } => match figures {
-                Figures::Refused(declined) => refused(declined.number),
-                Figures::None => "accepted, none".to_string(),
-                Figures::Doubles { .. } => "accepted, doubles".to_string(),
+                Figures::Refused(declined) => Outcome::Refused(declined.number),
+                Figures::None => Outcome::Case("none"),
+                Figures::Doubles { .. } => Outcome::Case("doubles"),
             },
-            Answer::Picture { output } => match refused_number(output) {
-                Some(number) => refused(number),
-                None => "accepted".to_string(),
-            },
+            Answer::Picture { output } => {
+                refused_number(output).map_or(Outcome::Accepted, Outcome::Refused)
+            }
         }
     }
 
@@ -537,11 +596,6 @@ impl Answer {
         words.end()?;
         Ok(answer)
     }
-}
-
-/// The outcome of a declined call; outcomes sort by number.
-fn refused(number: u32) -> String {
-    format!("refusal {number:2}")
 }
 
 /// The number in the output of a declined picture.

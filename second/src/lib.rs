@@ -11,11 +11,15 @@
 //! - `program`: the report program, from the bytes to the CSV.
 //! - `form`: the request form and the answer form (see FORM.md).
 //! - `random`, `generate`: seeded requests, by kind.
-//! - `compare`: this program's answers against those of another one.
+//! - `compare`, `counts`: this program's answers against those of another one.
+//! - `ask`, `smaller`: another program asked, and small requests that show where it
+//!   differs.
 
+pub mod ask;
 pub mod bitmap;
 pub mod calls;
 pub mod compare;
+pub mod counts;
 pub mod definition;
 pub mod form;
 pub mod generate;
@@ -24,4 +28,5 @@ pub mod program;
 pub mod quick;
 pub mod random;
 pub mod refusal;
+pub mod smaller;
 pub mod way;

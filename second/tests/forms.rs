@@ -1,11 +1,9 @@
-//! The request form and the answer form, the generators, and the comparison.
+//! The request form and the answer form.
 
 use second::calls::{Figures, Verdict};
-use second::compare::{compare, Counts, Stop};
 use second::form::{Answer, Request};
-use second::generate::{requests, KINDS};
+use second::generate::Requests;
 use second::point::point;
-use std::collections::HashSet;
 
 fn answered(line: &str) -> String {
     let request = Request::read(line).unwrap();
@@ -67,7 +65,8 @@ fn lines_that_are_no_requests() {
 
 #[test]
 fn answers_can_be_read_back() {
-    for request in requests(11, None).unwrap().take(3000) {
+    for made in Requests::new(11, None).unwrap().at(0..400) {
+        let request = made.request;
         let line = request.line();
         assert_eq!(Request::read(&line).as_ref(), Ok(&request));
         let answer = request.answer();
@@ -99,72 +98,4 @@ fn doubles_are_read_back_by_their_bits() {
         panic!("no doubles");
     };
     assert_eq!((centroid.x, centroid.y, solidity), (-0.5, 0.5, 1.0));
-}
-
-#[test]
-fn generators_are_repeatable() {
-    for kind in std::iter::once(None).chain(KINDS.iter().map(|kind| Some(kind.name))) {
-        let lines = |seed| -> Vec<String> {
-            let made = requests(seed, kind).unwrap();
-            made.take(20).map(|request| request.line()).collect()
-        };
-        assert_eq!(lines(5), lines(5));
-        assert_ne!(lines(5), lines(6), "{kind:?}");
-    }
-    assert!(requests(1, Some("no such kind")).is_none());
-}
-
-/// A mixed run meets every call, every number and both verdicts.
-#[test]
-fn a_mixed_run_meets_every_number() {
-    let mut outcomes = HashSet::new();
-    let mut calls = HashSet::new();
-    for request in requests(3, None).unwrap().take(6000) {
-        outcomes.insert(request.answer().outcome());
-        calls.insert(request.call_name());
-    }
-    assert_eq!(calls.len(), 9);
-    for number in (1..=12).chain(20..=25) {
-        assert!(
-            outcomes.contains(&format!("refusal {number:2}")),
-            "{number}"
-        );
-    }
-    for outcome in ["accepted, yes", "accepted, no", "accepted, none"] {
-        assert!(outcomes.contains(outcome));
-    }
-}
-
-fn compared(asked: &str, answered: &str) -> (usize, Option<Stop>) {
-    let mut counts = Counts::default();
-    let outcome = compare(asked.as_bytes(), answered.as_bytes(), &mut counts);
-    (counts.compared, outcome.err())
-}
-
-#[test]
-fn comparison() {
-    let asked = "5 2 0 0 0\n1 0 0 5\n";
-    assert!(matches!(compared(asked, "0 1\n0 0 0 0\n"), (2, None)));
-    assert!(matches!(compared(asked, "0 1\n0 0 0 0"), (2, None)));
-    let (count, stop) = compared(asked, "0 1\n0 0 1 0\n");
-    assert_eq!(count, 1);
-    match stop {
-        Some(Stop::Different {
-            line,
-            request,
-            expected,
-            found,
-        }) => {
-            assert_eq!((line, request.as_str()), (2, "1 0 0 5"));
-            assert_eq!((expected.as_str(), found.as_str()), ("0 0 0 0", "0 0 1 0"));
-        }
-        _ => panic!("no difference shown"),
-    }
-    let different = |answers| matches!(compared(asked, answers), (_, Some(Stop::Different { .. })));
-    assert!(different("0 1\n"));
-    assert!(different("0 1\n0 0 0 0\n0 0\n"));
-    assert!(different("0 1\n0 0 0 0 \n"));
-    assert!(different(""));
-    let unreadable = compared("5 2 0\n", "0 1\n");
-    assert!(matches!(unreadable, (0, Some(Stop::Unreadable(_)))));
 }

@@ -1,26 +1,17 @@
-//! Requests with pictures: bitmap files, sound and damaged.
+//! Sound bitmap files of all sizes, and those that only their number of black or
+//! missing pixels declines.
 
-use super::grains;
+use super::{grains, outlines};
 use crate::bitmap::MOST_BYTES;
-use crate::form::Request;
-use crate::point::Point;
+use crate::point::{point, Point};
 use crate::random::Random;
 use std::collections::HashSet;
 
 /// The pixels of a picture by rows from the top, true for black.
-struct Picture {
+pub struct Picture {
     width: usize,
     height: usize,
     black: Vec<bool>,
-}
-
-/// How many requests of the damaged kind go to one file: four kinds of damage at
-/// every position of a file of fewer bytes than `DAMAGED_BYTES`.
-const DAMAGES: u64 = 4 * DAMAGED_BYTES as u64;
-const DAMAGED_BYTES: usize = 80;
-
-fn ask(bytes: Vec<u8>) -> Request {
-    Request::Picture { bytes }
 }
 
 fn picture_of(width: usize, height: usize, points: &[Point]) -> Picture {
@@ -77,7 +68,7 @@ impl Picture {
         bytes
     }
 
-    fn plain_file(&self, line_end: &[u8]) -> Vec<u8> {
+    pub fn plain_file(&self, line_end: &[u8]) -> Vec<u8> {
         let (width, height) = (self.width.to_string(), self.height.to_string());
         [
             b"P1",
@@ -93,7 +84,7 @@ impl Picture {
 
     /// Comments, white space of all sorts and leading zeros wherever they may
     /// stand.
-    fn dressed_file(&self, random: &mut Random) -> Vec<u8> {
+    pub fn dressed_file(&self, random: &mut Random) -> Vec<u8> {
         let mut bytes = dressed_header(random, &self.width.to_string(), &self.height.to_string());
         bytes.extend(self.scattered_pixels(random));
         bytes
@@ -107,12 +98,12 @@ fn digits(pixels: &[bool]) -> Vec<u8> {
         .collect()
 }
 
-fn white_space(random: &mut Random) -> u8 {
+pub fn white_space(random: &mut Random) -> u8 {
     random.pick(b" \t\n\r")
 }
 
 /// From # to the next LF or CR, that line end with it.
-fn comment(random: &mut Random) -> Vec<u8> {
+pub fn comment(random: &mut Random) -> Vec<u8> {
     let mut bytes = vec![b'#'];
     for _ in 0..random.below(8) {
         let byte = random.pick(b" \t#01259P-.\x00\xff\x0b\x0cab");
@@ -136,7 +127,7 @@ fn gap(random: &mut Random) -> Vec<u8> {
     (0..count).flat_map(|_| one_white_space(random)).collect()
 }
 
-fn dressed_header(random: &mut Random, width: &str, height: &str) -> Vec<u8> {
+pub fn dressed_header(random: &mut Random, width: &str, height: &str) -> Vec<u8> {
     let zeros = |random: &mut Random| match random.below(12) {
         0..=7 => 0,
         8..=10 => 1 + random.below(4),
@@ -153,213 +144,84 @@ fn dressed_header(random: &mut Random, width: &str, height: &str) -> Vec<u8> {
 }
 
 /// Sound pictures of all sizes from 1 to 40, with the usual line ends.
-pub fn sound(random: &mut Random, _: u64) -> Request {
+pub fn sound(random: &mut Random) -> Vec<u8> {
     let (width, height) = (random.size(40), random.size(40));
     let picture = some_picture(random, width, height);
     let line_end: &[u8] = random.pick(&[&b"\n"[..], b"\r\n", b"\r", b" ", b"\t"]);
-    ask(picture.plain_file(line_end))
+    picture.plain_file(line_end)
 }
 
-fn small_picture(random: &mut Random, side: usize) -> Picture {
+pub fn small_picture(random: &mut Random, side: usize) -> Picture {
     let (width, height) = (1 + random.below(side), 1 + random.below(side));
     some_picture(random, width, height)
 }
 
-pub fn dressed(random: &mut Random, _: u64) -> Request {
+pub fn dressed(random: &mut Random) -> Vec<u8> {
     let picture = small_picture(random, 8);
-    ask(picture.dressed_file(random))
+    picture.dressed_file(random)
 }
 
-/// A byte deleted, replaced or inserted, or the file cut, at every position of
-/// one small file after the other.
-pub fn damaged(random: &mut Random, ordinal: u64) -> Request {
-    let mut same = Random::new(ordinal / DAMAGES);
-    let picture = small_picture(&mut same, 5);
-    let mut bytes = picture.dressed_file(&mut same);
-    if bytes.len() >= DAMAGED_BYTES || same.chance(1, 4) {
-        bytes = picture.plain_file(b"\n");
-    }
-    let step = (ordinal % DAMAGES) as usize;
-    let place = (step / 4) % (bytes.len() + 1);
-    damage(random, &mut bytes, step % 4, place);
-    if random.chance(1, 8) {
-        let (how, place) = (random.below(4), random.below(bytes.len() + 1));
-        damage(random, &mut bytes, how, place);
-    }
-    ask(bytes)
-}
-
-fn damage(random: &mut Random, bytes: &mut Vec<u8>, how: usize, place: usize) {
-    let other = random.pick(b"0123456789P1# \t\n\r\x0b\x0c-+.,ax\x00\x80\xff\xa0");
-    let in_file = place < bytes.len();
-    match how {
-        0 if in_file => {
-            bytes.remove(place);
-        }
-        1 if in_file => bytes[place] = other,
-        2 => bytes.insert(place, other),
-        _ => bytes.truncate(place),
-    }
-}
-
-/// A comment anywhere in a file, where it may stand and where not, with its line
-/// end or without.
-pub fn comments(random: &mut Random, _: u64) -> Request {
-    let picture = small_picture(random, 4);
-    let mut bytes = match random.below(3) {
-        0 => picture.dressed_file(random),
-        1 => picture.plain_file(b"\r\n"),
-        _ => picture.plain_file(b"\n"),
+/// A few black pixels in the first and last rows and columns of a picture, which
+/// is often as wide or as high as can be.
+pub fn sides(random: &mut Random) -> Vec<u8> {
+    let any = random.size(1024);
+    let long = random.pick(&[any, 1023, 1024]);
+    let short = random.size(1 + 3000 / long);
+    let (width, height) = random.pick(&[(long, short), (short, long)]);
+    let mut at_ends = |length: usize| {
+        let last = length as i32 - 1;
+        let any = random.between(0, last);
+        random.pick(&[0, 0, last, last, any])
     };
-    let most = random.pick(&[12, bytes.len() + 1]);
-    let place = random.below(most).min(bytes.len());
-    let mut inserted = comment(random);
-    if random.chance(1, 4) {
-        inserted.pop();
-    }
-    bytes.splice(place..place, inserted);
-    ask(bytes)
+    let grain: Vec<Point> = (0..5)
+        .map(|_| point(at_ends(width), at_ends(height)))
+        .collect();
+    let count = 1 + random.below(grain.len());
+    picture_of(width, height, &grain[..count]).plain_file(b"\n")
 }
 
-/// Widths and heights in and out of range, with any number of digits, and any
-/// continuation.
-pub fn sizes(random: &mut Random, _: u64) -> Request {
-    let width = some_size(random);
-    let height = some_size(random);
-    let mut bytes = match random.below(3) {
-        0 => dressed_header(random, &width, &height),
-        _ => format!("P1\n{width} {height}\n").into_bytes(),
+/// A polygon with many corners: all its pixels, its rim or its corners alone.
+pub fn round(random: &mut Random) -> Vec<u8> {
+    let side = random.pick(&[30, 64, 100, 250]);
+    let corners = grains::at_origin(grains::many_corners(random, side));
+    let grain = match random.below(3) {
+        0 => grains::filled(&corners),
+        1 => outlines::hollow(&grains::filled(&corners)),
+        _ => corners,
     };
-    let pixels = match (width.parse::<usize>(), height.parse::<usize>()) {
-        (Ok(width), Ok(height)) => width.saturating_mul(height).min(1100),
-        _ => 3,
-    };
-    let cut = random.below(bytes.len() + 1);
-    match random.below(8) {
-        0 => bytes.truncate(cut),
-        1 => {
-            bytes.pop();
-        }
-        2 => *bytes.last_mut().unwrap() = random.pick(b"x#-\x00"),
-        3 => bytes.push(random.pick(b"x#2")),
-        _ => bytes.extend((0..pixels).map(|_| random.pick(b"00000001"))),
-    }
-    ask(bytes)
-}
-
-fn some_size(random: &mut Random) -> String {
-    let usual = [
-        "0",
-        "00",
-        "1",
-        "1",
-        "1",
-        "2",
-        "01",
-        "007",
-        "1023",
-        "1024",
-        "01024",
-        "1025",
-        "1100",
-        "2000",
-        "9999",
-        "10240",
-        "65537",
-        "4294967297",
-        "18446744073709551617",
-        "-1",
-        "+1",
-        "1.0",
-        "x",
-        "",
-    ];
-    match random.below(16) {
-        0 => {
-            let many = random.pick(&[10, 20, 1000]);
-            "0".repeat(many) + random.pick(&usual)
-        }
-        1 => {
-            let many = random.pick(&[5, 19, 20, 21, 1000]);
-            random.pick(&["1", "9", "0"]).repeat(many)
-        }
-        _ => random.pick(&usual).to_string(),
-    }
-}
-
-/// Files that end anywhere, and files that do not begin with P1.
-pub fn ends(random: &mut Random, _: u64) -> Request {
-    let starts: [&[u8]; 12] = [
-        b"",
-        b"P",
-        b"P1",
-        b"P4\n1 1\n1",
-        b"p1\n1 1\n1",
-        b" P1\n1 1\n1",
-        b"#\nP1\n1 1\n1",
-        b"P#\n1\n1 1\n1",
-        b"P11 1 1",
-        b"P1#",
-        b"P1 1 1#",
-        b"1P 1 1 1",
-    ];
-    if random.chance(1, 4) {
-        return ask(random.pick(&starts).to_vec());
-    }
-    let mut bytes = small_picture(random, 4).dressed_file(random);
-    bytes.truncate(random.below(bytes.len() + 1));
-    ask(bytes)
-}
-
-/// Junk after the picture, white space before it or not.
-pub fn after(random: &mut Random, _: u64) -> Request {
-    let mut bytes = small_picture(random, 6).dressed_file(random);
-    for _ in 0..random.below(6) {
-        bytes.push(white_space(random));
-    }
-    if random.chance(3, 4) {
-        bytes.push(random.pick(b"01#2P\x00\xff\x0bx"));
-    }
-    for _ in 0..random.below(4) {
-        bytes.push(random.pick(b" \n01#x"));
-    }
-    ask(bytes)
+    let end = |f: fn(&Point) -> i32| grain.iter().map(f).max().unwrap_or(0) as usize + 1;
+    let (right, below) = (random.below(3), random.below(3));
+    picture_of(end(|p| p.x) + right, end(|p| p.y) + below, &grain).plain_file(b"\n")
 }
 
 /// Up to 200 by 200 pixels.
-pub fn large(random: &mut Random, _: u64) -> Request {
+pub fn large(random: &mut Random) -> Vec<u8> {
     let (width, height) = (1 + random.below(200), 1 + random.below(200));
     let picture = some_picture(random, width, height);
-    ask(picture.plain_file(b"\n"))
+    picture.plain_file(b"\n")
 }
 
-/// 65,535 to 65,538 bytes, filled up with white space, a comment, leading zeros
-/// or pixels.
-pub fn long(random: &mut Random, _: u64) -> Request {
-    let length = MOST_BYTES - 1 + random.below(4);
-    let mut bytes = small_picture(random, 5).plain_file(b"\n");
-    let (place, filling) = match random.below(4) {
-        0 => (bytes.len(), b' '),
-        1 => (3, b'0'),
-        2 => {
-            bytes.splice(2..2, *b"#");
-            (3, b'c')
-        }
-        _ => {
-            bytes = b"P1 1024 64\n".to_vec();
-            (bytes.len(), b'0')
-        }
+/// Nearly 65,536 pixels, with white space somewhere among them up to the longest
+/// file that is read, or a byte less.
+pub fn full(random: &mut Random) -> Vec<u8> {
+    let (width, height) = random.pick(&[(1023, 64), (1024, 63), (64, 1023), (255, 256)]);
+    let pixels = width * height;
+    let count = match random.below(4) {
+        0 => random.below(5),
+        1 => random.pick(&[4096, 4097, pixels]),
+        _ => random.size(4096),
     };
-    let count = length - bytes.len();
-    bytes.splice(place..place, vec![filling; count]);
-    if random.chance(1, 4) {
-        bytes[0] = b'Q';
-    }
-    ask(bytes)
+    let grain = grains::random_grain(random, count, width, height);
+    let header = format!("P1 {width} {height}\n").into_bytes();
+    let place = header.len() + random.below(pixels + 1);
+    let mut bytes = [header, digits(&picture_of(width, height, &grain).black)].concat();
+    let filling = MOST_BYTES - random.below(2) - bytes.len();
+    bytes.splice(place..place, vec![white_space(random); filling]);
+    bytes
 }
 
 /// About 4,096 black pixels, and some far above; other faults with them at times.
-pub fn black(random: &mut Random, _: u64) -> Request {
+pub fn black(random: &mut Random) -> Vec<u8> {
     let (width, height) = random.pick(&[(64, 65), (70, 70), (100, 100), (1024, 5)]);
     let most = width * height;
     let count = match random.below(4) {
@@ -376,11 +238,11 @@ pub fn black(random: &mut Random, _: u64) -> Request {
     if random.chance(1, 8) {
         bytes.truncate(bytes.len() - 2);
     }
-    ask(bytes)
+    bytes
 }
 
 /// About 8,192 missing points: a rectangle's corners and some further pixels.
-pub fn missing(random: &mut Random, _: u64) -> Request {
+pub fn missing(random: &mut Random) -> Vec<u8> {
     let (width, height) = random.pick(&[(100, 82), (82, 100), (91, 91), (128, 65), (1024, 9)]);
     let exact = width * height - 8192;
     let wanted = match random.below(4) {
@@ -395,5 +257,5 @@ pub fn missing(random: &mut Random, _: u64) -> Request {
     random.shuffle(&mut all);
     all.sort_by_key(|p| !is_corner(p));
     all.truncate(wanted.max(4));
-    ask(picture_of(width, height, &all).plain_file(b"\n"))
+    picture_of(width, height, &all).plain_file(b"\n")
 }

@@ -50,6 +50,16 @@ fn shift(random: &mut Random, coordinates: impl Iterator<Item = i32> + Clone) ->
     }
 }
 
+/// A grain moved so that its least coordinates are 0.
+pub fn at_origin(mut grain: Vec<Point>) -> Vec<Point> {
+    let left = grain.iter().map(|p| p.x).min().unwrap_or(0);
+    let top = grain.iter().map(|p| p.y).min().unwrap_or(0);
+    grain
+        .iter_mut()
+        .for_each(|p| *p = point(p.x - left, p.y - top));
+    grain
+}
+
 pub fn rectangle(width: usize, height: usize) -> Vec<Point> {
     let row = |y| (0..width as i32).map(move |x| point(x, y));
     (0..height as i32).flat_map(row).collect()
@@ -85,6 +95,25 @@ pub fn filled_shape(random: &mut Random, side: usize) -> Vec<Point> {
             rectangle(width, 1 + random.below(side))
         }
         _ => polygon(random, side),
+    }
+}
+
+/// Sorted, reversed, by columns, shuffled, or with one pair of neighbours out of
+/// order.
+pub fn arrange(random: &mut Random, grain: &mut [Point]) {
+    match random.below(6) {
+        0 => grain.sort(),
+        1 => {
+            grain.sort();
+            grain.reverse();
+        }
+        2 => grain.sort_by_key(|p| (p.x, p.y)),
+        3 if grain.len() > 1 => {
+            grain.sort();
+            let place = random.below(grain.len() - 1);
+            grain.swap(place, place + 1);
+        }
+        _ => random.shuffle(grain),
     }
 }
 
@@ -205,35 +234,61 @@ pub fn extreme(random: &mut Random) -> Vec<Point> {
     grain
 }
 
-/// The corners of a polygon with very many of them, at most `side` wide and
-/// high: steps in many directions, one after the other round a full turn.
+/// The corners of a polygon with very many of them, less than `side` wide and
+/// high: steps in many directions, one after the other round a full turn. With all
+/// short steps, by the sum of both coordinates, no polygon of its size has more.
 pub fn many_corners(random: &mut Random, side: usize) -> Vec<Point> {
-    let reach = random.size(29) as i32;
-    let mut steps: Vec<Point> = grid(reach)
-        .into_iter()
-        .filter(|step| common_divisor(step.x, step.y) == 1)
-        .collect();
-    let kept = 1 + random.below(6);
+    let by_sum = random.chance(1, 2);
+    let length = |step: &Point| match by_sum {
+        true => step.x.abs() + step.y.abs(),
+        false => step.x.abs().max(step.y.abs()),
+    };
+    let longest = if by_sum { 43 } else { 29 };
+    let (reach, kept) = match random.chance(1, 8) {
+        true => (longest, 6),
+        false => (random.size(longest as usize) as i32, 1 + random.below(6)),
+    };
+    let mut steps = grid(reach);
+    steps.retain(|step| {
+        !is_downward(*step) && length(step) <= reach && common_divisor(step.x, step.y) == 1
+    });
     steps.retain(|_| random.chance(kept, 6));
+    if steps.is_empty() {
+        steps.push(point(1, 0));
+    }
+    random.shuffle(&mut steps);
+    steps.sort_by_key(length);
+    round_trip(fitting(steps, side as i32))
+}
+
+/// As many of the steps, from the first on, as a round trip in a square has room
+/// for: it goes every step to and fro.
+fn fitting(mut steps: Vec<Point>, side: i32) -> Vec<Point> {
+    let (mut width, mut height) = (1, 1);
+    steps.retain(|step| {
+        let (wider, higher) = (width + step.x.abs(), height + step.y.abs());
+        let fits = wider <= side && higher <= side;
+        if fits {
+            (width, height) = (wider, higher);
+        }
+        fits
+    });
+    steps
+}
+
+/// Where one stands before each of the steps and of their opposites, taken by
+/// their directions. A step alone makes a line and no polygon.
+fn round_trip(mut steps: Vec<Point>) -> Vec<Point> {
     let opposite: Vec<Point> = steps.iter().map(|step| point(-step.x, -step.y)).collect();
     steps.extend(opposite);
     steps.sort_by(|&a, &b| by_direction(a, b));
-    steps.dedup();
-    let mut corner = point(0, 0);
+    let mut at = point(0, 0);
     let mut corners = Vec::new();
     for step in steps {
-        corners.push(corner);
-        corner = point(corner.x + step.x, corner.y + step.y);
+        corners.push(at);
+        at = point(at.x + step.x, at.y + step.y);
     }
-    let extent = |f: fn(&Point) -> i32| {
-        let all = || corners.iter().map(f);
-        (all().max().unwrap_or(0) - all().min().unwrap_or(0)) as usize
-    };
-    if !corners.is_empty() && extent(|p| p.x) < side && extent(|p| p.y) < side {
-        corners
-    } else {
-        rectangle(2, 2)
-    }
+    corners
 }
 
 /// All steps of at most `reach` in either coordinate.

@@ -1,139 +1,296 @@
-//! Generated requests: named kinds, each with its share of a mixed run. The
-//! n-th request of a kind depends on the seed, the kind and n alone.
+//! Generated requests: named kinds, each with its share among those that reach a
+//! call. A request depends on the seed, its call and its place alone.
 
+mod bitmap_faults;
 mod bitmaps;
 mod grains;
+mod list_faults;
 mod lists;
+mod outlines;
+mod rebuild_faults;
 mod rebuilds;
 mod rows;
 
-use crate::form::{Request, Room};
+use crate::form::{Call, Request, Room};
+use crate::point::{point, Point, HIGHEST, LOWEST, MOST_POINTS};
 use crate::random::{mix, Random};
+use lists::Lent;
+use std::ops::Range;
 
-/// A kind of requests: its name, its share among all kinds, and how the request
-/// with a given ordinal number is made.
+/// A kind of requests: its name, its share among the kinds for a call, and what
+/// it makes.
 pub struct Kind {
     pub name: &'static str,
     share: usize,
-    make: fn(&mut Random, u64) -> Request,
+    make: Make,
 }
 
-const fn kind(name: &'static str, share: usize, make: fn(&mut Random, u64) -> Request) -> Kind {
+/// What a kind makes, and with that the calls that it reaches.
+enum Make {
+    /// A list and three rooms: every call over lists is lent those that it has.
+    List(fn(&mut Random) -> Lent),
+    /// A list and a row.
+    Row(fn(&mut Random) -> (Vec<i32>, i32)),
+    Rebuild(fn(&mut Random) -> Request),
+    /// The bytes of a picture.
+    Picture(fn(&mut Random) -> Vec<u8>),
+}
+
+impl Make {
+    fn calls(&self) -> &'static [Call] {
+        match self {
+            Make::List(_) => &[
+                Call::Order,
+                Call::Hull,
+                Call::Verdict,
+                Call::Report,
+                Call::Figures,
+            ],
+            Make::Row(_) => &[Call::RowEnds, Call::Row],
+            Make::Rebuild(_) => &[Call::Rebuild],
+            Make::Picture(_) => &[Call::Picture],
+        }
+    }
+}
+
+impl Kind {
+    fn reaches(&self, call: Call) -> bool {
+        self.make.calls().contains(&call)
+    }
+
+    fn request(&self, random: &mut Random, call: Call) -> Request {
+        match self.make {
+            Make::List(make) => make(random).request(call),
+            Make::Row(make) => {
+                let (list, y) = make(random);
+                match call {
+                    Call::RowEnds => Request::RowEnds { list, y },
+                    _ => Request::Row { list, y },
+                }
+            }
+            Make::Rebuild(make) => make(random),
+            Make::Picture(make) => Request::Picture {
+                bytes: make(random),
+            },
+        }
+    }
+}
+
+const fn list(name: &'static str, share: usize, make: fn(&mut Random) -> Lent) -> Kind {
+    let make = Make::List(make);
+    Kind { name, share, make }
+}
+
+const fn row(name: &'static str, share: usize, make: fn(&mut Random) -> (Vec<i32>, i32)) -> Kind {
+    let make = Make::Row(make);
+    Kind { name, share, make }
+}
+
+const fn rebuild(name: &'static str, share: usize, make: fn(&mut Random) -> Request) -> Kind {
+    let make = Make::Rebuild(make);
+    Kind { name, share, make }
+}
+
+const fn picture(name: &'static str, share: usize, make: fn(&mut Random) -> Vec<u8>) -> Kind {
+    let make = Make::Picture(make);
     Kind { name, share, make }
 }
 
 /// All kinds. Those with long lines have a small share.
 pub const KINDS: &[Kind] = &[
-    kind("small-random", 100, lists::small_random),
-    kind("small-dense", 60, lists::small_dense),
-    kind("large-random", 12, lists::large_random),
-    kind("thin", 50, lists::thin),
-    kind("extremes", 30, lists::extremes),
-    kind("notches", 60, lists::notches),
-    kind("shapes", 60, lists::shapes),
-    kind("large-shapes", 4, lists::large_shapes),
-    kind("many-corners", 4, lists::many_corners),
-    kind("odd-length", 25, lists::odd_length),
-    kind("count-edge", 3, lists::count_edge),
-    kind("range-edge", 40, lists::range_edge),
-    kind("repeats", 40, lists::repeats),
-    kind("input-order", 30, lists::input_order),
-    kind("rooms", 70, lists::rooms),
-    kind("list-faults", 50, lists::faults),
-    kind("row", 60, rows::sorted),
-    kind("row-unfit", 40, rows::unfit),
-    kind("row-count-edge", 2, rows::count_edge),
-    kind("rebuild-right", 50, rebuilds::right),
-    kind("rebuild-corners", 60, rebuilds::corners),
-    kind("rebuild-stars", 15, rebuilds::stars),
-    kind("rebuild-many-corners", 4, rebuilds::many_corners),
-    kind("rebuild-missing", 50, rebuilds::missing),
-    kind("rebuild-count", 5, rebuilds::count),
-    kind("rebuild-long", 3, rebuilds::long),
-    kind("rebuild-faults", 40, rebuilds::faults),
-    kind("bitmap-sound", 30, bitmaps::sound),
-    kind("bitmap-dressed", 40, bitmaps::dressed),
-    kind("bitmap-comments", 25, bitmaps::comments),
-    kind("bitmap-damaged", 80, bitmaps::damaged),
-    kind("bitmap-sizes", 30, bitmaps::sizes),
-    kind("bitmap-ends", 25, bitmaps::ends),
-    kind("bitmap-after", 15, bitmaps::after),
-    kind("bitmap-large", 2, bitmaps::large),
-    kind("bitmap-long", 1, bitmaps::long),
-    kind("bitmap-black", 2, bitmaps::black),
-    kind("bitmap-missing", 2, bitmaps::missing),
+    list("small-random", 100, lists::small_random),
+    list("small-dense", 60, lists::small_dense),
+    list("every-count", 12, lists::every_count),
+    list("large-random", 12, lists::large_random),
+    list("thin", 50, lists::thin),
+    list("slivers", 30, lists::slivers),
+    list("lines", 6, lists::lines),
+    list("extremes", 30, lists::extremes),
+    list("whole-range", 10, lists::whole_range),
+    list("notches", 60, lists::notches),
+    list("chipped", 40, lists::chipped),
+    list("hollow", 20, lists::hollow),
+    list("islands", 20, lists::islands),
+    list("balanced", 20, lists::balanced),
+    list("shapes", 60, lists::shapes),
+    list("large-shapes", 6, lists::large_shapes),
+    list("many-corners", 6, lists::many_corners),
+    list("input-order", 30, lists::input_order),
+    list("rooms", 70, list_faults::rooms),
+    list("large-rooms", 8, list_faults::large_rooms),
+    list("plausible-rooms", 20, list_faults::plausible_rooms),
+    list("odd-length", 25, list_faults::odd_length),
+    list("count-edge", 3, list_faults::count_edge),
+    list("too-many", 1, list_faults::too_many),
+    list("range-edge", 40, list_faults::range_edge),
+    list("aliases", 20, list_faults::aliases),
+    list("repeats", 40, list_faults::repeats),
+    list("large-repeats", 8, list_faults::large_repeats),
+    list("list-faults", 50, list_faults::faults),
+    row("row", 60, rows::sorted),
+    row("row-unfit", 40, rows::unfit),
+    row("row-aliases", 20, rows::aliases),
+    row("row-large", 8, rows::large),
+    row("row-count-edge", 2, rows::count_edge),
+    rebuild("rebuild-right", 50, rebuilds::right),
+    rebuild("rebuild-slivers", 30, rebuilds::slivers),
+    rebuild("rebuild-wide", 10, rebuilds::wide),
+    rebuild("rebuild-many-corners", 6, rebuilds::many_corners),
+    rebuild("rebuild-count", 5, rebuilds::count),
+    rebuild("rebuild-long", 2, rebuilds::long),
+    rebuild("rebuild-corners", 60, rebuild_faults::corners),
+    rebuild("rebuild-stars", 15, rebuild_faults::stars),
+    rebuild("rebuild-missing", 50, rebuild_faults::missing),
+    rebuild("rebuild-aliases", 15, rebuild_faults::aliases),
+    rebuild("rebuild-long-corners", 2, rebuild_faults::long_corners),
+    rebuild("rebuild-long-missing", 2, rebuild_faults::long_missing),
+    rebuild("rebuild-faults", 40, rebuild_faults::faults),
+    picture("bitmap-sound", 30, bitmaps::sound),
+    picture("bitmap-dressed", 40, bitmaps::dressed),
+    picture("bitmap-sides", 20, bitmaps::sides),
+    picture("bitmap-round", 3, bitmaps::round),
+    picture("bitmap-large", 2, bitmaps::large),
+    picture("bitmap-full", 1, bitmaps::full),
+    picture("bitmap-black", 3, bitmaps::black),
+    picture("bitmap-missing", 3, bitmaps::missing),
+    picture("bitmap-comments", 25, bitmap_faults::comments),
+    picture("bitmap-damaged", 80, bitmap_faults::damaged),
+    picture("bitmap-every-byte", 40, bitmap_faults::every_byte),
+    picture("bitmap-sizes", 30, bitmap_faults::sizes),
+    picture("bitmap-ends", 25, bitmap_faults::ends),
+    picture("bitmap-after", 15, bitmap_faults::after),
+    picture("bitmap-long", 1, bitmap_faults::long),
 ];
 
-/// Requests without end, of one kind or mixed in the fixed proportions; nothing
-/// if there is no such kind.
-pub fn requests(seed: u64, kind: Option<&str>) -> Option<Box<dyn Iterator<Item = Request>>> {
-    match kind {
-        None => Some(Box::new(mixed(seed))),
-        Some(name) => {
-            let index = KINDS.iter().position(|kind| kind.name == name)?;
-            Some(Box::new((0..).map(move |n| make(seed, index, n))))
+/// Requests without end: for every call that is reached one at each place.
+pub struct Requests {
+    seed: u64,
+    kinds: Vec<&'static Kind>,
+}
+
+/// A request and the kind that made it.
+pub struct Made {
+    pub kind: &'static Kind,
+    pub request: Request,
+}
+
+impl Requests {
+    /// Of all kinds, or of the one with a name; nothing if there is no such kind.
+    pub fn new(seed: u64, name: Option<&str>) -> Option<Requests> {
+        let wanted = |kind: &&Kind| name.is_none_or(|name| name == kind.name);
+        let kinds: Vec<&Kind> = KINDS.iter().filter(wanted).collect();
+        (!kinds.is_empty()).then_some(Requests { seed, kinds })
+    }
+
+    /// The calls that the kinds reach.
+    pub fn calls(&self) -> impl Iterator<Item = Call> + '_ {
+        let reached = |call: &Call| self.kinds.iter().any(|kind| kind.reaches(*call));
+        Call::ALL.into_iter().filter(reached)
+    }
+
+    /// The requests at some places, for each call in turn.
+    pub fn at(&self, places: Range<u64>) -> impl Iterator<Item = Made> + '_ {
+        places.flat_map(move |place| self.calls().map(move |call| self.request(call, place)))
+    }
+
+    fn request(&self, call: Call, place: u64) -> Made {
+        let of_call = mix(self.seed).wrapping_add(call as u64);
+        let mut random = Random::new(mix(of_call).wrapping_add(place));
+        let kind = self.some_kind(&mut random, call);
+        let request = kind.request(&mut random, call);
+        Made { kind, request }
+    }
+
+    /// One of the kinds for a call, by their shares.
+    fn some_kind(&self, random: &mut Random, call: Call) -> &'static Kind {
+        let reaching = || self.kinds.iter().filter(|kind| kind.reaches(call));
+        let mut left = random.below(reaching().map(|kind| kind.share).sum());
+        for kind in reaching() {
+            if left < kind.share {
+                return kind;
+            }
+            left -= kind.share;
         }
+        unreachable!("the shares add up")
     }
 }
 
-/// The n-th request of a kind.
-fn make(seed: u64, index: usize, n: u64) -> Request {
-    let ordinal = (mix(seed) >> 24 << 20) + n;
-    let mut random = Random::new(mix(ordinal).wrapping_add(index as u64));
-    (KINDS[index].make)(&mut random, ordinal)
-}
-
-/// Every round holds each kind as often as its share says, in shuffled order.
-fn mixed(seed: u64) -> impl Iterator<Item = Request> {
-    let mut made = vec![0; KINDS.len()];
-    (0..).flat_map(move |round| {
-        let mut order: Vec<usize> = Vec::new();
-        for (index, kind) in KINDS.iter().enumerate() {
-            order.extend(std::iter::repeat_n(index, kind.share));
-        }
-        Random::new(mix(seed).wrapping_add(round)).shuffle(&mut order);
-        let requests: Vec<(usize, u64)> = order
-            .into_iter()
-            .map(|index| {
-                made[index] += 1;
-                (index, made[index] - 1)
-            })
-            .collect();
-        requests
-            .into_iter()
-            .map(move |(index, n)| make(seed, index, n))
-    })
-}
-
-/// The longest room that is asked for.
-const LONGEST_ROOM: usize = 40_000;
+/// The longest list or room that is asked for.
+const LONGEST: usize = 40_000;
 
 /// A room of this length with numbers that are clearly no result.
 fn room(random: &mut Random, length: usize) -> Room {
     let first = random.between(1_000_000, 1_900_000);
     Room {
-        length: length.min(LONGEST_ROOM),
+        length: length.min(LONGEST),
         first: random.pick(&[first, -first - 100_000]),
     }
 }
 
+/// A room whose numbers could be results, or that lie at the ends of 32 bits: a
+/// call must not look at them.
+fn plausible_room(random: &mut Random, length: usize) -> Room {
+    let length = length.min(LONGEST);
+    let near = random.between(-9, 9);
+    let last_first = i32::MAX - length.saturating_sub(1) as i32;
+    let first = random.pick(&[0, near, near, LOWEST, HIGHEST - near, i32::MIN, last_first]);
+    Room { length, first }
+}
+
 /// The length of a room that is enough for so many points.
 fn enough(random: &mut Random, points: usize) -> usize {
-    2 * points + random.pick(&[0, 0, 0, 1, 2, 3, 8, 21])
+    2 * points + random.pick(&[0, 0, 0, 0, 1, 1, 2, 2, 3, 3, 8, 8, 21, 21, 200, 1001])
+}
+
+/// The length of a room that is exactly enough, or a number or a pair off.
+fn almost_exact(random: &mut Random, points: usize) -> usize {
+    (2 * points + random.below(5)).saturating_sub(2)
 }
 
 /// The length of a room from nothing to one pair more than enough, with an odd
 /// last number or without.
 fn any_length(random: &mut Random, points: usize) -> usize {
-    let exact = 2 * points;
     match random.below(10) {
         0 => 0,
         1 => 1,
-        2 => exact.saturating_sub(2),
-        3 => exact.saturating_sub(1),
-        4 => exact,
-        5 => exact + 1,
-        6 => exact + 2,
-        _ => random.below(exact + 3),
+        2..=6 => almost_exact(random, points),
+        _ => random.below(2 * points + 3),
+    }
+}
+
+/// A number of points around a power of two, or any up to 700: where working
+/// space or a method changes with the size, it does so at some such number.
+fn telling_count(random: &mut Random) -> usize {
+    if random.chance(1, 2) {
+        return random.below(701);
+    }
+    let power = 1 << random.below(13);
+    (power + random.below(3)).saturating_sub(1).min(MOST_POINTS)
+}
+
+/// The first, a middle or the last of so many.
+fn first_middle_or_last(random: &mut Random, count: usize) -> usize {
+    match random.below(3) {
+        0 => 0,
+        1 => random.below(count),
+        _ => count.saturating_sub(1),
+    }
+}
+
+/// What a careless reading of coordinates may not notice: a power of two, as where
+/// a coordinate is cut to some bits or two of them share a word.
+fn power_away(random: &mut Random) -> i32 {
+    let power = 1 << random.pick(&[14, 14, 14, 15, 16, 16, 24, 28, 30]);
+    random.pick(&[power, -power, i32::MIN])
+}
+
+/// A point out of range that could be taken for this one.
+fn alias(random: &mut Random, p: Point) -> Point {
+    let away = power_away(random);
+    match random.below(4) {
+        0 => point(p.x.wrapping_add(away), p.y),
+        1 => point(p.x, p.y.wrapping_add(away)),
+        2 => point(p.x.wrapping_add(16_384), p.y.wrapping_sub(1)),
+        _ => point(p.x.wrapping_sub(16_384), p.y.wrapping_add(1)),
     }
 }

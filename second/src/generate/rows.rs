@@ -1,17 +1,13 @@
-//! Requests for Row and Row ends.
+//! Lists and rows for Row ends and Row.
 
-use super::grains;
-use crate::form::Request;
+use super::{alias, first_middle_or_last, grains, power_away, telling_count};
 use crate::point::{numbers_of, points_of, Point, HIGHEST, LOWEST, MOST_POINTS};
 use crate::random::Random;
 
-fn ask(random: &mut Random, list: Vec<i32>) -> Request {
+/// The list, and some row for it.
+fn asked(random: &mut Random, list: Vec<i32>) -> (Vec<i32>, i32) {
     let y = some_row(random, &points_of(&list));
-    if random.chance(1, 2) {
-        Request::RowEnds { list, y }
-    } else {
-        Request::Row { list, y }
-    }
+    (list, y)
 }
 
 /// A row that is present, near one that is, below or above all, or far out of
@@ -44,51 +40,90 @@ fn ordered_grain(random: &mut Random) -> Vec<Point> {
     grain
 }
 
-pub fn sorted(random: &mut Random, _: u64) -> Request {
+pub fn sorted(random: &mut Random) -> (Vec<i32>, i32) {
     let grain = ordered_grain(random);
-    ask(random, numbers_of(&grain))
+    asked(random, numbers_of(&grain))
 }
 
 /// Lists that are not strictly in row order, odd, or out of range.
-pub fn unfit(random: &mut Random, _: u64) -> Request {
-    let mut grain = ordered_grain(random);
+pub fn unfit(random: &mut Random) -> (Vec<i32>, i32) {
+    let grain = ordered_grain(random);
+    let list = spoiled(random, grain);
+    asked(random, list)
+}
+
+/// The list of a grain in row order with one fault.
+fn spoiled(random: &mut Random, mut grain: Vec<Point>) -> Vec<i32> {
+    if grain.is_empty() {
+        return Vec::new();
+    }
+    let place = first_middle_or_last(random, grain.len());
+    match random.below(6) {
+        0 => random.shuffle(&mut grain),
+        1 => {
+            let next = (place + 1) % grain.len();
+            grain.swap(place, next);
+        }
+        2 => grain.insert(place, grain[place]),
+        _ => {}
+    }
     let mut list = numbers_of(&grain);
-    if !grain.is_empty() {
-        let place = random.below(grain.len());
-        match random.below(6) {
-            0 => {
-                random.shuffle(&mut grain);
-                list = numbers_of(&grain);
-            }
-            1 => {
-                let next = (place + 1) % grain.len();
-                grain.swap(place, next);
-                list = numbers_of(&grain);
-            }
-            2 => {
-                grain.insert(place, grain[place]);
-                list = numbers_of(&grain);
-            }
-            3 => {
-                list.pop();
-            }
-            4 => {
-                let index = random.pick(&[0, 1, 2 * place, 2 * place + 1, list.len() - 1]);
-                list[index] =
-                    random.pick(&[LOWEST - 1, LOWEST, HIGHEST, HIGHEST + 1, i32::MIN, i32::MAX]);
-            }
-            _ => list.push(random.pick(&[0, i32::MAX])),
+    match random.below(6) {
+        0 => {
+            list.pop();
+        }
+        1 => list.push(random.pick(&[0, i32::MAX])),
+        2..=3 => {
+            let index = 2 * place + random.below(2);
+            list[index] =
+                random.pick(&[LOWEST - 1, LOWEST, HIGHEST, HIGHEST + 1, i32::MIN, i32::MAX]);
+        }
+        _ => {}
+    }
+    list
+}
+
+/// Points out of range that could be taken for points in range, and rows out of
+/// range that could be taken for one that is present.
+pub fn aliases(random: &mut Random) -> (Vec<i32>, i32) {
+    let mut grain = ordered_grain(random);
+    let (_, mut y) = asked(random, numbers_of(&grain));
+    let which = random.below(3);
+    if which != 0 {
+        y = y.wrapping_add(power_away(random));
+    }
+    if which != 1 && !grain.is_empty() {
+        let place = first_middle_or_last(random, grain.len());
+        let p = alias(random, grain[place]);
+        match random.below(3) {
+            0 => grain[place] = p,
+            1 => grain.insert(place, p),
+            _ => grain.insert(place + 1, p),
         }
     }
-    ask(random, list)
+    (numbers_of(&grain), y)
+}
+
+/// Many points, in few rows or in many, and a single fault at times.
+pub fn large(random: &mut Random) -> (Vec<i32>, i32) {
+    let count = telling_count(random);
+    let (width, height) = random.pick(&[(4096, 1), (1, 4096), (70, 70), (3, 5000), (2000, 4)]);
+    let grain = grains::random_grain(random, count, width, height);
+    let mut grain = grains::moved(random, grain);
+    grain.sort();
+    let list = match random.chance(1, 3) {
+        true => spoiled(random, grain),
+        false => numbers_of(&grain),
+    };
+    asked(random, list)
 }
 
 /// 4,095 to 4,098 points in row order.
-pub fn count_edge(random: &mut Random, _: u64) -> Request {
+pub fn count_edge(random: &mut Random) -> (Vec<i32>, i32) {
     let count = MOST_POINTS - 1 + random.below(4);
     let (width, height) = random.pick(&[(64, 65), (4100, 1), (1, 4100), (16, 300)]);
     let mut grain = grains::random_grain(random, count, width, height);
     grain.sort();
     let grain = grains::moved(random, grain);
-    ask(random, numbers_of(&grain))
+    asked(random, numbers_of(&grain))
 }
