@@ -20,7 +20,7 @@ use writing::Sink;
 ghost use Prim.Native.Nat.{_<_};
 
 // The most numbers of a list or a room.
-const MOST_NUMBERS: usize = 40000;
+const MOST_NUMBERS: usize = 140000;
 
 // One request, by the number of its call. The arrays are lent to every call, each for the part whose name it has:
 // `ordered` is also the point room of Rebuild, and `corners` and `missing` are its lists.

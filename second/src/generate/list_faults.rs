@@ -34,11 +34,14 @@ fn narrowed(random: &mut Random, grain: &[Point], chosen: fn(&mut Random, usize)
 pub fn large_rooms(random: &mut Random) -> Lent {
     let mut grain = match random.below(4) {
         0 => {
-            let side = random.pick(&[140, 16_384]);
+            let side = random.pick(&[140, 270, 16_384]);
             grains::many_corners(random, side)
         }
         1 => outlines::line(random),
-        2 => outlines::hollow(&grains::disc(random.between(10, 78))),
+        2 => {
+            let radius = random.pick(&[10, 40, 78, 140]);
+            outlines::hollow(&grains::disc(random.between(10, radius)))
+        }
         _ => outlines::chipped(random, 64),
     };
     grains::arrange(random, &mut grain);

@@ -215,8 +215,8 @@ impl Requests {
     }
 }
 
-/// The longest list or room that is asked for.
-const LONGEST: usize = 40_000;
+/// The longest list or room that is asked for (FORM.md): more than 65,536 points.
+const LONGEST: usize = 140_000;
 
 /// A room of this length with numbers that are clearly no result.
 fn room(random: &mut Random, length: usize) -> Room {

@@ -80,17 +80,21 @@ pub fn wide(random: &mut Random) -> Request {
     ask(random, &corners, &missing, 2 * MOST_POINTS)
 }
 
-/// Very many corners, right or almost right.
+/// Very many corners, right or almost right, with so many points missing that the
+/// result is small enough, where that can be.
 pub fn many_corners(random: &mut Random) -> Request {
-    let side = random.pick(&[90, 90, 16_384]);
+    let side = random.pick(&[70, 90, 270, 16_384]);
     let grain = grains::many_corners(random, side);
     let mut corners = corner_list(&grains::moved(random, grain));
     let hull_points = HullRows::of_corners(&corners).count();
     let mut missing = Vec::new();
-    if hull_points < 9000 {
+    if hull_points < 66_000 {
         missing = grains::filled(&corners);
-        let kept = 1 + random.below(9);
-        missing.retain(|p| random.chance(kept, 9) && !corners.contains(p));
+        missing.retain(|p| !corners.contains(p));
+        random.shuffle(&mut missing);
+        let left = random.size(MOST_POINTS);
+        missing.truncate(missing.len().saturating_sub(left));
+        missing.sort();
     }
     let length = any_length(random, (hull_points - missing.len()).min(MOST_POINTS));
     if random.chance(1, 2) {
@@ -129,26 +133,39 @@ pub fn count(random: &mut Random) -> Request {
     ask(random, &corners, &missing, length)
 }
 
-/// Missing lists longer than 4,096 points, up to the longest that can be asked,
-/// which leave about 4,096 points or only a few.
+/// Missing lists longer than 4,096 points, up to more than 65,536, which leave about
+/// 4,096 points or only some.
 pub fn long(random: &mut Random) -> Request {
     let parts = long_parts(random);
     let length = any_length(random, parts.points.len());
     ask(random, &parts.corners, &parts.missing, length)
 }
 
-/// A rectangle, turned or not, with so many points missing.
+/// A rectangle with so many points missing.
 pub fn long_parts(random: &mut Random) -> Parts {
-    let (width, height) = random.pick(&[(92, 93), (95, 100), (100, 100), (140, 142), (20_000, 1)]);
-    let all = grains::rectangle(width.min(16_384), height);
-    let corners = corner_list(&all);
+    let sizes = [
+        (92, 93),
+        (93, 92),
+        (100, 100),
+        (16_384, 1),
+        (1, 16_384),
+        (140, 142),
+        (256, 258),
+    ];
+    let (width, height) = random.pick(&sizes);
+    let all = grains::rectangle(width, height);
+    let corners = corner_list(&[
+        all[0],
+        all[width - 1],
+        all[all.len() - width],
+        all[all.len() - 1],
+    ]);
     let mut points: Vec<Point> = all.into_iter().filter(|p| !corners.contains(p)).collect();
     random.shuffle(&mut points);
-    let kept = match random.below(3) {
+    points.truncate(match random.below(3) {
         0 => random.below(400),
         _ => MOST_POINTS - 6 + random.below(6),
-    };
-    points.truncate(kept);
+    });
     points.extend(&corners);
     parts_of(grains::moved(random, points))
 }
