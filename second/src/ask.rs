@@ -5,7 +5,7 @@ use crate::compare::{compare_end, compare_next, left_over, Asked, Difference, St
 use crate::counts::Counts;
 use crate::generate::Requests;
 use crate::smaller::smaller;
-use std::io::{BufReader, BufWriter, Write};
+use std::io::{self, BufReader, BufWriter, IsTerminal, Write};
 use std::process::{ChildStdin, Command, Stdio};
 use std::sync::atomic::{AtomicU64, Ordering};
 use std::sync::Mutex;
@@ -132,6 +132,9 @@ impl SoFar {
         match outcome {
             Err(stop) if is_first => self.stop = Some((first, stop)),
             _ => {}
+        }
+        if io::stderr().is_terminal() {
+            eprint!("\r{} compared\r", self.counts.compared);
         }
     }
 }

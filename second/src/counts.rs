@@ -18,7 +18,8 @@ pub struct Counts {
 struct OfKind {
     accepted: usize,
     refused: usize,
-    longest: Longest,
+    /// The most numbers of a request.
+    longest: usize,
 }
 
 /// The most numbers of a request and of an answer.
@@ -49,7 +50,7 @@ impl Counts {
         self.by_call.entry(call).or_default().take(longest);
         if let Some(kind) = asked.kind {
             let of_kind = self.by_kind.entry(kind).or_default();
-            of_kind.longest.take(longest);
+            of_kind.longest = of_kind.longest.max(longest.request);
             match outcome {
                 Outcome::Refused(_) => of_kind.refused += 1,
                 _ => of_kind.accepted += 1,
@@ -63,7 +64,7 @@ impl Counts {
             let of_kind = self.by_kind.entry(name).or_default();
             of_kind.accepted += more.accepted;
             of_kind.refused += more.refused;
-            of_kind.longest.take(more.longest);
+            of_kind.longest = of_kind.longest.max(more.longest);
         }
         for (&outcome, count) in &other.by_outcome {
             *self.by_outcome.entry(outcome).or_default() += count;
@@ -71,13 +72,6 @@ impl Counts {
         for (&call, longest) in &other.by_call {
             self.by_call.entry(call).or_default().take(*longest);
         }
-    }
-
-    /// How many of a kind agreed.
-    pub fn of_kind(&self, name: &str) -> usize {
-        self.by_kind
-            .get(name)
-            .map_or(0, |of_kind| of_kind.accepted + of_kind.refused)
     }
 
     /// A table of kinds, and one of calls and outcomes.
@@ -89,17 +83,11 @@ impl Counts {
         if self.by_kind.is_empty() {
             return String::new();
         }
-        let head = ["accepted", "refused", "longest request", "answer"];
+        let head = ["accepted", "refused", "longest"];
         let mut text = line("kind", head.map(str::to_string));
         for kind in KINDS {
             if let Some(of_kind) = self.by_kind.get(kind.name) {
-                let longest = of_kind.longest;
-                let cells = [
-                    of_kind.accepted,
-                    of_kind.refused,
-                    longest.request,
-                    longest.answer,
-                ];
+                let cells = [of_kind.accepted, of_kind.refused, of_kind.longest];
                 text += &line(kind.name, cells.map(shown));
             }
         }

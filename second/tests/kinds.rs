@@ -37,33 +37,22 @@ fn requests_are_repeatable() {
     assert!(Requests::new(1, Some("no such kind")).is_none());
 }
 
-/// Every place has one request for each call, and all kinds are met.
+/// Every place has one request for each call, all kinds are met, and each call is
+/// declined with every number that document 01 has for it, and with no other.
 #[test]
-fn every_call_at_every_place() {
+fn every_kind_and_every_number_of_every_call() {
     let mut kinds = HashSet::new();
-    let mut calls = Vec::new();
-    for made in Requests::new(3, None).unwrap().at(0..3000) {
+    let mut numbers: Vec<HashSet<u32>> = vec![HashSet::new(); Call::ALL.len()];
+    let calls = Call::ALL.iter().cycle();
+    for (made, &call) in Requests::new(3, None).unwrap().at(0..2000).zip(calls) {
         kinds.insert(made.kind.name);
-        calls.push(made.request.call());
-    }
-    assert_eq!(kinds.len(), KINDS.len());
-    assert!(calls.chunks(9).all(|place| place == Call::ALL));
-    let reached = |kind| -> Vec<Call> { Requests::new(3, Some(kind)).unwrap().calls().collect() };
-    assert_eq!(reached("rooms").len(), 5);
-    assert_eq!(reached("row"), [Call::RowEnds, Call::Row]);
-}
-
-/// Each call is declined with every number that document 01 has for it, and with
-/// no other.
-#[test]
-fn every_number_of_every_call() {
-    let mut met: Vec<HashSet<u32>> = vec![HashSet::new(); Call::ALL.len()];
-    for made in Requests::new(3, None).unwrap().at(0..3000) {
+        assert_eq!(made.request.call(), call);
         if let Outcome::Refused(number) = made.request.answer().outcome() {
-            met[made.request.call() as usize].insert(number);
+            numbers[call as usize].insert(number);
         }
     }
-    for (call, met) in Call::ALL.iter().zip(met) {
+    assert_eq!(kinds.len(), KINDS.len());
+    for (call, numbers) in Call::ALL.iter().zip(numbers) {
         let expected: Vec<u32> = match call {
             Call::Order => (1..=5).collect(),
             Call::Hull | Call::Verdict | Call::Figures => (1..=6).collect(),
@@ -72,8 +61,11 @@ fn every_number_of_every_call() {
             Call::Rebuild => (1..=3).chain(8..=12).collect(),
             Call::Picture => [2, 7].into_iter().chain(20..=25).collect(),
         };
-        assert_eq!(met, expected.into_iter().collect(), "{call:?}");
+        assert_eq!(numbers, expected.into_iter().collect(), "{call:?}");
     }
+    let reached = |kind| -> Vec<Call> { Requests::new(3, Some(kind)).unwrap().calls().collect() };
+    assert_eq!(reached("rooms").len(), 5);
+    assert_eq!(reached("row"), [Call::RowEnds, Call::Row]);
 }
 
 /// Of the grains of some kinds: the most points, corners, missing points that are
@@ -82,7 +74,7 @@ fn every_number_of_every_call() {
 fn large_grains() {
     let (mut points, mut corners, mut missing, mut rows) = (0, 0, 0, 0);
     for name in ["many-corners", "large-rooms", "count-edge", "extremes"] {
-        for request in of_kind(name, 100) {
+        for request in of_kind(name, 40) {
             let Answer::Report {
                 number: 0, rooms, ..
             } = request.answer()
@@ -107,7 +99,7 @@ fn large_grains() {
 #[test]
 fn rooms_around_the_exact_size() {
     let mut met = HashSet::new();
-    for request in of_kind("large-rooms", 600) {
+    for request in of_kind("large-rooms", 250) {
         let Request::Report { list, missing, .. } = request else {
             continue;
         };
@@ -129,7 +121,7 @@ fn rooms_around_the_exact_size() {
 fn large_rebuilds() {
     let (mut longest, mut results) = (0, HashSet::new());
     for name in ["rebuild-long", "rebuild-count"] {
-        for request in of_kind(name, 200) {
+        for request in of_kind(name, 60) {
             let answer = request.answer();
             let Request::Rebuild { missing, .. } = request else {
                 panic!("no Rebuild");

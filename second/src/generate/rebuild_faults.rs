@@ -4,7 +4,7 @@ use super::rebuilds::{ask, long_parts, parts_of, Parts};
 use super::{alias, any_length, enough, first_middle_or_last, grains, room};
 use crate::form::Request;
 use crate::point::{numbers_of, point, turn, Point, HIGHEST, LOWEST, MOST_POINTS};
-use crate::quick::corner_list;
+use crate::quick::{corner_list, HullRows};
 use crate::random::Random;
 
 /// Corner lists that are almost right.
@@ -106,7 +106,7 @@ pub fn missing(random: &mut Random) -> Request {
 
 pub fn spoil_missing(random: &mut Random, parts: &mut Parts) {
     let missing = &mut parts.missing;
-    match random.below(10) {
+    match random.below(11) {
         0 if missing.len() > 1 => {
             let place = first_middle_or_last(random, missing.len() - 1);
             missing.swap(place, place + 1);
@@ -142,14 +142,31 @@ pub fn spoil_missing(random: &mut Random, parts: &mut Parts) {
             ));
             missing.sort();
         }
-        _ => {
+        9 => {
             let near = random.pick(&parts.points);
             let (across, along) = (random.between(-2, 2), random.between(-2, 2));
             missing.push(point(near.x + across, near.y + along));
             missing.sort();
             missing.dedup();
         }
+        _ => {
+            let outside = beside(random, &parts.corners, &parts.points);
+            missing.push(outside);
+            missing.sort();
+        }
     }
+}
+
+/// The first point outside a hull, seen from one of its points along a row or a
+/// column.
+fn beside(random: &mut Random, corners: &[Point], points: &[Point]) -> Point {
+    let hull = HullRows::of_corners(corners);
+    let (across, along) = random.pick(&[(1, 0), (-1, 0), (0, 1), (0, -1)]);
+    let mut p = random.pick(points);
+    while hull.holds(p) {
+        p = point(p.x + across, p.y + along);
+    }
+    p
 }
 
 /// Points out of range that could be taken for a corner or a missing point.
