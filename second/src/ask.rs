@@ -1,7 +1,7 @@
 //! Another program, asked generated requests: in slices, several at a time, up to
 //! the first difference, of which a smaller one is looked for.
 
-use crate::compare::{compare_end, compare_next, left_over, Asked, Difference, Stop};
+use crate::compare::{compare_end, compare_next, left_over, Asked, Difference, Stop, NO_ANSWER};
 use crate::counts::Counts;
 use crate::generate::Requests;
 use crate::smaller::smaller;
@@ -25,8 +25,34 @@ pub struct Program {
 }
 
 impl Program {
-    /// Asks all, in one run of the program; `counts` holds what agreed so far.
+    /// Asks all, up to the first difference; `counts` holds what agreed so far.
     pub fn compare(&self, asked: &[Asked], counts: &mut Counts) -> Result<(), Stop> {
+        let outcome = self.compare_run(asked, counts);
+        match &outcome {
+            Err(Stop::Different(shown)) if shown.found == NO_ANSWER => self
+                .last_answerless(&asked[counts.compared..])
+                .map_or(outcome, Err),
+            _ => outcome,
+        }
+    }
+
+    /// A program that ends early may take answers with it that it has not yet written.
+    /// What ends it is the last one of the fewest requests that it does not answer.
+    fn last_answerless(&self, asked: &[Asked]) -> Option<Stop> {
+        let agrees = |asked: &[Asked]| self.compare_run(asked, &mut Counts::default());
+        let (mut answered, mut not_answered) = (0, asked.len());
+        while answered + 1 < not_answered {
+            let middle = answered.midpoint(not_answered);
+            match agrees(&asked[..middle]) {
+                Ok(()) => answered = middle,
+                Err(_) => not_answered = middle,
+            }
+        }
+        agrees(&asked[answered..not_answered]).err()
+    }
+
+    /// Asks all in one run of the program.
+    fn compare_run(&self, asked: &[Asked], counts: &mut Counts) -> Result<(), Stop> {
         let mut run = Command::new(&self.name)
             .args(&self.words)
             .stdin(Stdio::piped())

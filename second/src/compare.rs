@@ -77,6 +77,9 @@ pub enum Stop {
     Unreadable(String),
 }
 
+/// Stands where an answer is missing.
+pub const NO_ANSWER: &str = "(no answer)";
+
 /// Compares the files of requests and of answers until the first difference;
 /// `counts` holds what agreed so far.
 pub fn compare(
@@ -110,7 +113,7 @@ pub fn compare_next(
         request: Some(asked.request.clone()),
         kind: asked.kind,
         expected,
-        found: found.unwrap_or_else(|| "(no answer)".to_string()),
+        found: found.unwrap_or_else(|| NO_ANSWER.to_string()),
     })))
 }
 
@@ -118,7 +121,7 @@ pub fn compare_next(
 pub fn compare_end(answers: &mut impl BufRead) -> Result<(), Stop> {
     match next_line(answers)? {
         None => Ok(()),
-        Some(found) => Err(left_over("(no answer)", found)),
+        Some(found) => Err(left_over(NO_ANSWER, found)),
     }
 }
 

@@ -155,6 +155,55 @@ fn a_program_that_ends_early_or_is_none() {
     assert_eq!(run.status.code(), Some(2));
 }
 
+/// A program that a request for Rebuild with two missing points or more ends before it
+/// has written any answer.
+#[test]
+fn the_request_that_ends_a_program_is_found() {
+    let second = env!("CARGO_BIN_EXE_second");
+    let ends = "all=$(cat); echo \"$all\" | awk '$($2 + 3) > 2 { exit 1 }' &&
+        echo \"$all\" | \"$0\" answer";
+    let run = Command::new(second)
+        .args([
+            "ask",
+            "4",
+            "60",
+            "rebuild-stars",
+            "--",
+            "sh",
+            "-c",
+            ends,
+            second,
+        ])
+        .output()
+        .unwrap();
+    assert_eq!(run.status.code(), Some(0));
+    let run = Command::new(second)
+        .args([
+            "ask",
+            "4",
+            "60",
+            "rebuild-right",
+            "--",
+            "sh",
+            "-c",
+            ends,
+            second,
+        ])
+        .output()
+        .unwrap();
+    assert_eq!(run.status.code(), Some(1));
+    let text = String::from_utf8(run.stdout).unwrap();
+    let Ok(Request::Rebuild { missing, .. }) = Request::read(after(&text, "request:  ")) else {
+        panic!("{text}");
+    };
+    assert!(missing.len() > 2);
+    let smallest = text.split("a smaller one\n").nth(1).unwrap();
+    assert!(
+        after(smallest, "request:  ").starts_with("7 0 4 "),
+        "{text}"
+    );
+}
+
 /// A program that finds no grain of three points or more convex is shown to be
 /// wrong by a grain of few points.
 #[test]

@@ -33,7 +33,8 @@ fn damage(random: &mut Random, bytes: &mut Vec<u8>) {
     }
 }
 
-/// Any byte, all 256, anywhere in a very small file.
+/// Any byte, all 256, anywhere in a very small file; those next to a byte that has a
+/// meaning more often.
 pub fn every_byte(random: &mut Random) -> Vec<u8> {
     let files: [&[u8]; 3] = [
         b"P1 2 1 10",
@@ -41,7 +42,9 @@ pub fn every_byte(random: &mut Random) -> Vec<u8> {
         b"P1\r\n1 2\r\n1\r\n0",
     ];
     let mut bytes = random.pick(&files).to_vec();
-    let byte = random.below(256) as u8;
+    let any = random.below(256) as u8;
+    let next = random.pick(b"019P#\t\n\r ") - 1 + 2 * random.below(2) as u8;
+    let byte = random.pick(&[any, next]);
     let place = random.below(bytes.len());
     if random.chance(1, 2) {
         bytes[place] = byte;

@@ -182,7 +182,7 @@ pub fn sides(random: &mut Random) -> Vec<u8> {
 
 /// A polygon with many corners: all its pixels, its rim or its corners alone.
 pub fn round(random: &mut Random) -> Vec<u8> {
-    let side = random.pick(&[30, 64, 100, 250]);
+    let side = random.pick(&[50, 100, 180, 250]);
     let corners = grains::at_origin(grains::many_corners(random, side));
     let grain = match random.below(3) {
         0 => grains::filled(&corners),

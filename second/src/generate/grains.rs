@@ -244,7 +244,7 @@ pub fn many_corners(random: &mut Random, side: usize) -> Vec<Point> {
         false => step.x.abs().max(step.y.abs()),
     };
     let longest = if by_sum { 43 } else { 29 };
-    let (reach, kept) = match random.chance(1, 8) {
+    let (reach, kept) = match random.chance(1, 4) {
         true => (longest, 6),
         false => (random.size(longest as usize) as i32, 1 + random.below(6)),
     };

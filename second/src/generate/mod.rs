@@ -148,7 +148,7 @@ pub const KINDS: &[Kind] = &[
     picture("bitmap-sound", 30, bitmaps::sound),
     picture("bitmap-dressed", 40, bitmaps::dressed),
     picture("bitmap-sides", 20, bitmaps::sides),
-    picture("bitmap-round", 3, bitmaps::round),
+    picture("bitmap-round", 4, bitmaps::round),
     picture("bitmap-large", 2, bitmaps::large),
     picture("bitmap-full", 1, bitmaps::full),
     picture("bitmap-black", 3, bitmaps::black),
