@@ -1,7 +1,7 @@
 //! Another program, asked generated requests: in slices, several at a time, up to
 //! the first difference, of which a smaller one is looked for.
 
-use crate::compare::{compare_end, compare_next, left_over, Asked, Difference, Stop, NO_ANSWER};
+use crate::compare::{compare_end, compare_next, left_over, Asked, Difference, Stop};
 use crate::counts::Counts;
 use crate::generate::Requests;
 use crate::smaller::smaller;
@@ -29,7 +29,7 @@ impl Program {
     pub fn compare(&self, asked: &[Asked], counts: &mut Counts) -> Result<(), Stop> {
         let outcome = self.compare_run(asked, counts);
         match &outcome {
-            Err(Stop::Different(shown)) if shown.found == NO_ANSWER => self
+            Err(Stop::Different(shown)) if shown.is_end => self
                 .last_answerless(&asked[counts.compared..])
                 .map_or(outcome, Err),
             _ => outcome,

@@ -46,6 +46,8 @@ pub struct Difference {
     pub kind: Option<&'static str>,
     pub expected: String,
     pub found: String,
+    /// Whether the answers end there, before or within this one.
+    pub is_end: bool,
 }
 
 impl Difference {
@@ -78,7 +80,7 @@ pub enum Stop {
 }
 
 /// Stands where an answer is missing.
-pub const NO_ANSWER: &str = "(no answer)";
+const NO_ANSWER: &str = "(no answer)";
 
 /// Compares the files of requests and of answers until the first difference;
 /// `counts` holds what agreed so far.
@@ -102,10 +104,12 @@ pub fn compare_next(
     answers: &mut impl BufRead,
     counts: &mut Counts,
 ) -> Result<(), Stop> {
-    let found = next_line(answers)?;
+    let mut found = String::new();
+    answers.read_line(&mut found)?;
+    let is_end = !found.ends_with('\n');
     let answer = asked.request.answer();
     let expected = answer.line();
-    if found.as_ref() == Some(&expected) {
+    if found.trim_end_matches('\n') == expected {
         counts.add(asked, &expected, answer.outcome());
         return Ok(());
     }
@@ -113,7 +117,11 @@ pub fn compare_next(
         request: Some(asked.request.clone()),
         kind: asked.kind,
         expected,
-        found: found.unwrap_or_else(|| NO_ANSWER.to_string()),
+        found: match found.as_str() {
+            "" => NO_ANSWER.to_string(),
+            line => line.trim_end_matches('\n').to_string(),
+        },
+        is_end,
     })))
 }
 
@@ -132,6 +140,7 @@ pub fn left_over(expected: &str, found: String) -> Stop {
         kind: None,
         expected: expected.to_string(),
         found,
+        is_end: true,
     }))
 }
 
