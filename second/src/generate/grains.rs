@@ -1,5 +1,6 @@
 //! Grains: sets of distinct points of many shapes, from which requests are made.
 
+use super::telling_count;
 use crate::point::{point, Point, HIGHEST, LOWEST};
 use crate::quick::{corner_list, HullRows};
 use crate::random::Random;
@@ -234,9 +235,10 @@ pub fn extreme(random: &mut Random) -> Vec<Point> {
     grain
 }
 
-/// The corners of a polygon with very many of them, less than `side` wide and
-/// high: steps in many directions, one after the other round a full turn. With all
-/// short steps, by the sum of both coordinates, no polygon of its size has more.
+/// The corners of a polygon with very many of them, less than `side` wide and high,
+/// in no order: steps in many directions, one after the other round a full turn. With
+/// all short steps, by the sum of both coordinates, no polygon of its size has more.
+/// Some of the corners alone are corners too.
 pub fn many_corners(random: &mut Random, side: usize) -> Vec<Point> {
     let by_sum = random.chance(1, 2);
     let length = |step: &Point| match by_sum {
@@ -258,7 +260,12 @@ pub fn many_corners(random: &mut Random, side: usize) -> Vec<Point> {
     }
     random.shuffle(&mut steps);
     steps.sort_by_key(length);
-    round_trip(fitting(steps, side as i32))
+    let mut corners = round_trip(fitting(steps, side as i32));
+    random.shuffle(&mut corners);
+    if random.chance(1, 3) {
+        corners.truncate(telling_count(random).max(1));
+    }
+    corners
 }
 
 /// As many of the steps, from the first on, as a round trip in a square has room

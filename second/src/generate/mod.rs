@@ -100,7 +100,7 @@ const fn picture(name: &'static str, share: usize, make: fn(&mut Random) -> Vec<
 pub const KINDS: &[Kind] = &[
     list("small-random", 100, lists::small_random),
     list("small-dense", 60, lists::small_dense),
-    list("every-count", 12, lists::every_count),
+    list("every-count", 20, lists::every_count),
     list("large-random", 12, lists::large_random),
     list("thin", 50, lists::thin),
     list("slivers", 30, lists::slivers),
@@ -114,7 +114,7 @@ pub const KINDS: &[Kind] = &[
     list("balanced", 20, lists::balanced),
     list("shapes", 60, lists::shapes),
     list("large-shapes", 6, lists::large_shapes),
-    list("many-corners", 6, lists::many_corners),
+    list("many-corners", 8, lists::many_corners),
     list("input-order", 30, lists::input_order),
     list("rooms", 70, list_faults::rooms),
     list("large-rooms", 8, list_faults::large_rooms),
@@ -135,7 +135,7 @@ pub const KINDS: &[Kind] = &[
     rebuild("rebuild-right", 50, rebuilds::right),
     rebuild("rebuild-slivers", 30, rebuilds::slivers),
     rebuild("rebuild-wide", 10, rebuilds::wide),
-    rebuild("rebuild-many-corners", 6, rebuilds::many_corners),
+    rebuild("rebuild-many-corners", 8, rebuilds::many_corners),
     rebuild("rebuild-count", 5, rebuilds::count),
     rebuild("rebuild-long", 2, rebuilds::long),
     rebuild("rebuild-corners", 60, rebuild_faults::corners),
@@ -264,8 +264,8 @@ fn telling_count(random: &mut Random) -> usize {
     if random.chance(1, 2) {
         return random.below(701);
     }
-    let power = 1 << random.below(13);
-    (power + random.below(3)).saturating_sub(1).min(MOST_POINTS)
+    let power = 32 << random.below(8);
+    (power - 1 + random.below(3)).min(MOST_POINTS)
 }
 
 /// The first, a middle or the last of so many.
