@@ -218,7 +218,7 @@ fn faults_are_what_their_kind_says() {
         ("large-repeats", &[4, 3]),
         ("aliases", &[3, 4, 7, 0]),
         ("rebuild-aliases", &[3, 0, 8, 9, 10, 12]),
-        ("rebuild-long-corners", &[1, 2, 3, 8]),
+        ("rebuild-long-corners", &[2, 1, 3, 8]),
     ] {
         let mut met = 0;
         for request in of_kind(kind, 60) {

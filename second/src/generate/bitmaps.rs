@@ -1,7 +1,7 @@
 //! Sound bitmap files of all sizes, and those that only their number of black or
 //! missing pixels declines.
 
-use super::{grains, outlines};
+use super::{grains, outlines, round};
 use crate::bitmap::MOST_BYTES;
 use crate::point::{point, Point};
 use crate::random::Random;
@@ -183,7 +183,7 @@ pub fn sides(random: &mut Random) -> Vec<u8> {
 /// A polygon with many corners: all its pixels, its rim or its corners alone.
 pub fn round(random: &mut Random) -> Vec<u8> {
     let side = random.pick(&[50, 100, 180, 250]);
-    let corners = grains::at_origin(grains::many_corners(random, side));
+    let corners = grains::at_origin(round::many_corners(random, side));
     let grain = match random.below(3) {
         0 => grains::filled(&corners),
         1 => outlines::hollow(&grains::filled(&corners)),

@@ -2,10 +2,9 @@
 //! and Figures.
 
 use super::lists::{lent, needs_of, Lent};
-use super::{
-    alias, almost_exact, any_length, enough, first_middle_or_last, grains, outlines,
-    plausible_room, telling_count,
-};
+use super::rooms::{almost_exact, any_length, enough, plausible_room};
+use super::traps::{alias, first_middle_or_last, telling_count, too_many_points};
+use super::{grains, outlines, round};
 use crate::point::{numbers_of, Point, HIGHEST, LOWEST, MOST_POINTS};
 use crate::random::Random;
 
@@ -35,7 +34,7 @@ pub fn large_rooms(random: &mut Random) -> Lent {
     let mut grain = match random.below(4) {
         0 => {
             let side = random.pick(&[140, 270, 16_384]);
-            grains::many_corners(random, side)
+            round::many_corners(random, side)
         }
         1 => outlines::line(random),
         2 => {
@@ -96,10 +95,10 @@ pub fn count_edge(random: &mut Random) -> Lent {
     lent(random, list, lengths)
 }
 
-/// Up to 12,000 points, whatever else is wrong with them and in whatever rooms.
+/// More than 4,096 points, whatever else is wrong with them and in whatever rooms.
 pub fn too_many(random: &mut Random) -> Lent {
-    let count = MOST_POINTS + random.size(8000);
-    let grain = grains::random_grain(random, count, 120, 110);
+    let count = too_many_points(random);
+    let grain = grains::random_grain(random, count, 300, 300);
     let lengths = [grain.len(), 4, 4].map(|need| any_length(random, need));
     let mut list = numbers_of(&grain);
     if random.chance(1, 3) {

@@ -1,7 +1,9 @@
 //! Sound lists of many shapes, in rooms that are enough, for Order, Hull, Verdict,
 //! Report and Figures.
 
-use super::{enough, grains, outlines, room, telling_count};
+use super::rooms::{enough, room};
+use super::traps::telling_count;
+use super::{grains, outlines, round};
 use crate::form::{Call, Request, Room};
 use crate::point::{numbers_of, point, Point, MOST_POINTS};
 use crate::quick::{corner_list, HullRows};
@@ -192,7 +194,7 @@ pub fn large_shapes(random: &mut Random) -> Lent {
 
 /// Very many corners, and points between them at times.
 pub fn many_corners(random: &mut Random) -> Lent {
-    let mut grain = grains::many_corners(random, 16_384);
+    let mut grain = round::many_corners(random, 16_384);
     if random.chance(1, 2) {
         let inside = HullRows::of_corners(&corner_list(&grain));
         let further = random.pick(&grain);

@@ -9,10 +9,12 @@ mod lists;
 mod outlines;
 mod rebuild_faults;
 mod rebuilds;
+mod rooms;
+mod round;
 mod rows;
+mod traps;
 
-use crate::form::{Call, Request, Room};
-use crate::point::{point, Point, HIGHEST, LOWEST, MOST_POINTS};
+use crate::form::{Call, Request};
 use crate::random::{mix, Random};
 use lists::Lent;
 use std::ops::Range;
@@ -212,85 +214,5 @@ impl Requests {
             left -= kind.share;
         }
         unreachable!("the shares add up")
-    }
-}
-
-/// The longest list or room that is asked for (FORM.md): more than 65,536 points.
-const LONGEST: usize = 140_000;
-
-/// A room of this length with numbers that are clearly no result.
-fn room(random: &mut Random, length: usize) -> Room {
-    let first = random.between(1_000_000, 1_900_000);
-    Room {
-        length: length.min(LONGEST),
-        first: random.pick(&[first, -first - 100_000]),
-    }
-}
-
-/// A room whose numbers could be results, or that lie at the ends of 32 bits: a
-/// call must not look at them.
-fn plausible_room(random: &mut Random, length: usize) -> Room {
-    let length = length.min(LONGEST);
-    let near = random.between(-9, 9);
-    let last_first = i32::MAX - length.saturating_sub(1) as i32;
-    let first = random.pick(&[0, near, near, LOWEST, HIGHEST - near, i32::MIN, last_first]);
-    Room { length, first }
-}
-
-/// The length of a room that is enough for so many points.
-fn enough(random: &mut Random, points: usize) -> usize {
-    2 * points + random.pick(&[0, 0, 0, 0, 1, 1, 2, 2, 3, 3, 8, 8, 21, 21, 200, 1001])
-}
-
-/// The length of a room that is exactly enough, or a number or a pair off.
-fn almost_exact(random: &mut Random, points: usize) -> usize {
-    (2 * points + random.below(5)).saturating_sub(2)
-}
-
-/// The length of a room from nothing to one pair more than enough, with an odd
-/// last number or without.
-fn any_length(random: &mut Random, points: usize) -> usize {
-    match random.below(10) {
-        0 => 0,
-        1 => 1,
-        2..=6 => almost_exact(random, points),
-        _ => random.below(2 * points + 3),
-    }
-}
-
-/// A number of points around a power of two, or any up to 700: where working
-/// space or a method changes with the size, it does so at some such number.
-fn telling_count(random: &mut Random) -> usize {
-    if random.chance(1, 2) {
-        return random.below(701);
-    }
-    let power = 32 << random.below(8);
-    (power - 1 + random.below(3)).min(MOST_POINTS)
-}
-
-/// The first, a middle or the last of so many.
-fn first_middle_or_last(random: &mut Random, count: usize) -> usize {
-    match random.below(3) {
-        0 => 0,
-        1 => random.below(count),
-        _ => count.saturating_sub(1),
-    }
-}
-
-/// What a careless reading of coordinates may not notice: a power of two, as where
-/// a coordinate is cut to some bits or two of them share a word.
-fn power_away(random: &mut Random) -> i32 {
-    let power = 1 << random.pick(&[14, 14, 14, 15, 16, 16, 24, 28, 30]);
-    random.pick(&[power, -power, i32::MIN])
-}
-
-/// A point out of range that could be taken for this one.
-fn alias(random: &mut Random, p: Point) -> Point {
-    let away = power_away(random);
-    match random.below(4) {
-        0 => point(p.x.wrapping_add(away), p.y),
-        1 => point(p.x, p.y.wrapping_add(away)),
-        2 => point(p.x.wrapping_add(16_384), p.y.wrapping_sub(1)),
-        _ => point(p.x.wrapping_sub(16_384), p.y.wrapping_add(1)),
     }
 }

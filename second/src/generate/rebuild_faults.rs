@@ -1,7 +1,9 @@
 //! Corner lists and missing lists with faults, for Rebuild.
 
+use super::grains;
 use super::rebuilds::{ask, long_parts, parts_of, Parts};
-use super::{alias, any_length, enough, first_middle_or_last, grains, room};
+use super::rooms::{any_length, enough, room};
+use super::traps::{alias, first_middle_or_last, too_many_points};
 use crate::form::Request;
 use crate::point::{numbers_of, point, turn, Point, HIGHEST, LOWEST, MOST_POINTS};
 use crate::quick::{corner_list, HullRows};
@@ -196,11 +198,14 @@ fn put_alias(random: &mut Random, list: &mut Vec<Point>) {
     }
 }
 
-/// 4,095 to 4,098 corners, which are no corner list, at times with a coordinate
-/// out of range or a list of odd length.
+/// 4,095 to 4,098 corners or far more, which are no corner list, at times with a
+/// coordinate out of range or a list of odd length.
 pub fn long_corners(random: &mut Random) -> Request {
-    let count = MOST_POINTS - 1 + random.below(4);
-    let mut corners = numbers_of(&grains::random_grain(random, count, 100, 100));
+    let count = match random.below(5) {
+        0 => too_many_points(random),
+        _ => MOST_POINTS - 1 + random.below(4),
+    };
+    let mut corners = numbers_of(&grains::random_grain(random, count, 300, 300));
     let mut missing = numbers_of(&grains::small(random));
     for list in [&mut corners, &mut missing] {
         if random.chance(1, 3) {

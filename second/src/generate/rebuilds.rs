@@ -2,7 +2,8 @@
 //! Rebuild, in rooms of all lengths.
 
 use super::rebuild_faults::{spoil_corners, spoil_missing};
-use super::{any_length, grains, outlines, plausible_room, room};
+use super::rooms::{any_length, plausible_room, room};
+use super::{grains, outlines, round};
 use crate::form::Request;
 use crate::point::{numbers_of, point, Point, MOST_POINTS};
 use crate::quick::{corner_list, HullRows};
@@ -84,7 +85,7 @@ pub fn wide(random: &mut Random) -> Request {
 /// result is small enough, where that can be.
 pub fn many_corners(random: &mut Random) -> Request {
     let side = random.pick(&[70, 90, 270, 16_384]);
-    let grain = grains::many_corners(random, side);
+    let grain = round::many_corners(random, side);
     let mut corners = corner_list(&grains::moved(random, grain));
     let hull_points = HullRows::of_corners(&corners).count();
     let mut missing = Vec::new();

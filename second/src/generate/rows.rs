@@ -1,6 +1,7 @@
 //! Lists and rows for Row ends and Row.
 
-use super::{alias, first_middle_or_last, grains, power_away, telling_count};
+use super::grains;
+use super::traps::{alias, first_middle_or_last, power_away, telling_count, too_many_points};
 use crate::point::{numbers_of, points_of, Point, HIGHEST, LOWEST, MOST_POINTS};
 use crate::random::Random;
 
@@ -118,11 +119,15 @@ pub fn large(random: &mut Random) -> (Vec<i32>, i32) {
     asked(random, list)
 }
 
-/// 4,095 to 4,098 points in row order.
+/// 4,095 to 4,098 points in row order, or far more.
 pub fn count_edge(random: &mut Random) -> (Vec<i32>, i32) {
-    let count = MOST_POINTS - 1 + random.below(4);
-    let (width, height) = random.pick(&[(64, 65), (4100, 1), (1, 4100), (16, 300)]);
-    let mut grain = grains::random_grain(random, count, width, height);
+    let mut count = MOST_POINTS - 1 + random.below(4);
+    let mut size = random.pick(&[(64, 65), (4100, 1), (1, 4100), (16, 300)]);
+    if random.chance(1, 5) {
+        count = too_many_points(random);
+        size = random.pick(&[(300, 300), (8, 16_384)]);
+    }
+    let mut grain = grains::random_grain(random, count, size.0, size.1);
     grain.sort();
     let grain = grains::moved(random, grain);
     asked(random, numbers_of(&grain))
