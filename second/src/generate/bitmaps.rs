@@ -166,7 +166,7 @@ pub fn dressed(random: &mut Random) -> Vec<u8> {
 pub fn sides(random: &mut Random) -> Vec<u8> {
     let any = random.size(1024);
     let long = random.pick(&[any, 1023, 1024]);
-    let short = random.size(1 + 3000 / long);
+    let short = random.size((1 + 3000 / long).min(1024));
     let (width, height) = random.pick(&[(long, short), (short, long)]);
     let mut at_ends = |length: usize| {
         let last = length as i32 - 1;

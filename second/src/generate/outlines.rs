@@ -7,11 +7,15 @@ use crate::quick::corner_list;
 use crate::random::Random;
 use std::collections::HashSet;
 
-/// A filled shape that lacks a point or two of its rim: in the first or last row or
-/// column, or at either end of some row. Its corners stay, so that the grain is not
-/// convex.
+/// A filled shape or a long strip that lacks a point or two of its rim: in the first
+/// or last row or column, or at either end of some row. Its corners stay, so that the
+/// grain is not convex.
 pub fn chipped(random: &mut Random, side: usize) -> Vec<Point> {
-    let mut grain = filled_shape(random, side);
+    let mut grain = match random.below(16) {
+        0 => rectangle(3, random.size(MOST_POINTS / 3)),
+        1 => rectangle(random.size(MOST_POINTS / 3), 3),
+        _ => filled_shape(random, side),
+    };
     let corners: HashSet<Point> = corner_list(&grain).into_iter().collect();
     let mut chips = 1 + random.below(2);
     for _ in 0..6 {
