@@ -1,6 +1,6 @@
 //! Bitmap files with faults: damaged, cut, with bad sizes, too long.
 
-use super::bitmaps::{comment, dressed_header, small_picture, white_space};
+use super::bitmaps::{comment, dressed_header, small_picture, some_picture, white_space};
 use crate::bitmap::MOST_BYTES;
 use crate::random::Random;
 
@@ -31,6 +31,33 @@ fn damage(random: &mut Random, bytes: &mut Vec<u8>) {
         2 => bytes.insert(place, other),
         _ => bytes.truncate(place),
     }
+}
+
+/// Larger files, with a fault or white space where a program that takes many bytes at
+/// a time begins or ends a part: some bytes about a multiple of 8, counted from the
+/// file's start, from the first pixel or from the end.
+pub fn parts(random: &mut Random) -> Vec<u8> {
+    let (width, height) = (1 + random.below(80), 1 + random.below(20));
+    let picture = some_picture(random, width, height);
+    let line_end: &[u8] = random.pick(&[&b"\n"[..], b"", b"\r\n", b"  \t"]);
+    let header = format!("P1 {width} {height}\n").into_bytes();
+    let begin = random.pick(&[0, header.len()]);
+    let mut bytes = [header, picture.plain_pixels(line_end)].concat();
+    for _ in 0..random.below(3) {
+        let away = 8 * random.below(bytes.len() / 8 + 1) + random.below(3);
+        let place = random.pick(&[
+            (begin + away).saturating_sub(1),
+            bytes.len().saturating_sub(away),
+        ]);
+        let place = place.min(bytes.len());
+        match random.below(4) {
+            0 => bytes.insert(place, white_space(random)),
+            1 => bytes.insert(place, random.pick(b"012#x\x00\x80\xb1")),
+            2 if place < bytes.len() => bytes[place] = random.pick(b"01 2/x\x0b\xff"),
+            _ => bytes.truncate(place.max(bytes.len().saturating_sub(70))),
+        }
+    }
+    bytes
 }
 
 /// Any byte, all 256, anywhere in a very small file; those next to a byte that has a

@@ -26,7 +26,7 @@ fn picture_of(width: usize, height: usize, points: &[Point]) -> Picture {
 
 /// A picture of this size: all black, all white, of random density, or a shape
 /// with a few pixels knocked out.
-fn some_picture(random: &mut Random, width: usize, height: usize) -> Picture {
+pub fn some_picture(random: &mut Random, width: usize, height: usize) -> Picture {
     let pixels = width * height;
     match random.below(6) {
         0 => picture_of(width, height, &grains::rectangle(width, height)),
@@ -47,7 +47,7 @@ fn some_picture(random: &mut Random, width: usize, height: usize) -> Picture {
 
 impl Picture {
     /// One row a line, as most programs write it.
-    fn plain_pixels(&self, line_end: &[u8]) -> Vec<u8> {
+    pub fn plain_pixels(&self, line_end: &[u8]) -> Vec<u8> {
         let row = |row: &[bool]| [&digits(row)[..], line_end].concat();
         self.black.chunks(self.width).flat_map(row).collect()
     }

@@ -125,6 +125,11 @@ pub fn slivers(random: &mut Random) -> Lent {
     anywhere(random, grain)
 }
 
+pub fn gaps(random: &mut Random) -> Lent {
+    let grain = outlines::gaps(random);
+    anywhere(random, grain)
+}
+
 pub fn lines(random: &mut Random) -> Lent {
     let grain = outlines::line(random);
     anywhere(random, grain)

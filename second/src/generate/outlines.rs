@@ -84,6 +84,34 @@ pub fn line(random: &mut Random) -> Vec<Point> {
     grain
 }
 
+/// A few rows of runs with gaps between them, both of any length and often about a
+/// power of two; each row begins and ends with a point. Up to 4,096 points.
+pub fn gaps(random: &mut Random) -> Vec<Point> {
+    let rows = 1 + random.below(4);
+    let most = random.pick(&[100, 1000, MOST_POINTS]) / rows;
+    let width = random.pick(&[70, 300, 2000, 16_000]);
+    let mut grain = Vec::new();
+    for y in 0..rows as i32 {
+        let (mut x, mut left) = (0, most);
+        while left > 0 && x < width {
+            let run = some_run(random).min(left);
+            grain.extend((0..run as i32).map(|step| point(x + step, y)));
+            left -= run;
+            x += (run + some_run(random)) as i32;
+        }
+    }
+    grain.retain(|p| p.x <= width);
+    grain
+}
+
+fn some_run(random: &mut Random) -> usize {
+    match random.chance(1, 2) {
+        true => random.size(700),
+        false => (1 << random.below(10)) + random.below(3) - 1,
+    }
+    .max(1)
+}
+
 /// Three or four points, two of them steps with a turn of 1: the triangle from the
 /// start over both has no other lattice point, and most rows that it crosses have
 /// none at all. One step may be taken several times.

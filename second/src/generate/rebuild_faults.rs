@@ -2,7 +2,7 @@
 
 use super::grains;
 use super::rebuilds::{ask, long_parts, parts_of, Parts};
-use super::rooms::{any_length, enough, room};
+use super::rooms::{enough, often_enough, room};
 use super::traps::{alias, first_middle_or_last, too_many_points};
 use crate::form::Request;
 use crate::point::{numbers_of, point, turn, Point, HIGHEST, LOWEST, MOST_POINTS};
@@ -232,7 +232,7 @@ pub fn long_missing(random: &mut Random) -> Request {
         1 => parts.corners = corner_list(&grains::small(random)),
         _ => spoil_missing(random, &mut parts),
     }
-    let length = any_length(random, parts.points.len());
+    let length = often_enough(random, parts.points.len());
     ask(random, &parts.corners, &parts.missing, length)
 }
 
@@ -256,7 +256,7 @@ pub fn faults(random: &mut Random) -> Request {
             list.push(0);
         }
     }
-    let length = any_length(random, parts.points.len());
+    let length = often_enough(random, parts.points.len());
     Request::Rebuild {
         corners,
         missing,

@@ -2,7 +2,7 @@
 //! Rebuild, in rooms of all lengths.
 
 use super::rebuild_faults::{spoil_corners, spoil_missing};
-use super::rooms::{any_length, plausible_room, room};
+use super::rooms::{often_enough, plausible_room, room};
 use super::{grains, outlines, round};
 use crate::form::Request;
 use crate::point::{numbers_of, point, Point, MOST_POINTS};
@@ -45,7 +45,7 @@ pub fn right(random: &mut Random) -> Request {
         parts.points = grains::filled(&parts.corners);
         parts.missing.clear();
     }
-    let length = any_length(random, parts.points.len());
+    let length = often_enough(random, parts.points.len());
     if random.chance(1, 5) {
         return Request::Rebuild {
             corners: numbers_of(&parts.corners),
@@ -64,7 +64,18 @@ pub fn slivers(random: &mut Random) -> Request {
     if random.chance(1, 2) {
         spoil_missing(random, &mut parts);
     }
-    let length = any_length(random, parts.points.len());
+    let length = often_enough(random, parts.points.len());
+    ask(random, &parts.corners, &parts.missing, length)
+}
+
+/// Rows of runs and gaps, with missing points right or next to right.
+pub fn gaps(random: &mut Random) -> Request {
+    let grain = outlines::gaps(random);
+    let mut parts = parts_of(grains::moved(random, grain));
+    if random.chance(1, 3) {
+        spoil_missing(random, &mut parts);
+    }
+    let length = often_enough(random, parts.points.len());
     ask(random, &parts.corners, &parts.missing, length)
 }
 
@@ -97,7 +108,7 @@ pub fn many_corners(random: &mut Random) -> Request {
         missing.truncate(missing.len().saturating_sub(left));
         missing.sort();
     }
-    let length = any_length(random, (hull_points - missing.len()).min(MOST_POINTS));
+    let length = often_enough(random, (hull_points - missing.len()).min(MOST_POINTS));
     if random.chance(1, 2) {
         spoil_corners(random, &mut corners);
     }
@@ -130,7 +141,7 @@ pub fn count(random: &mut Random) -> Request {
         }
     }
     missing.sort();
-    let length = any_length(random, points.len());
+    let length = often_enough(random, points.len());
     ask(random, &corners, &missing, length)
 }
 
@@ -138,7 +149,7 @@ pub fn count(random: &mut Random) -> Request {
 /// 4,096 points or only some.
 pub fn long(random: &mut Random) -> Request {
     let parts = long_parts(random);
-    let length = any_length(random, parts.points.len());
+    let length = often_enough(random, parts.points.len());
     ask(random, &parts.corners, &parts.missing, length)
 }
 

@@ -50,3 +50,8 @@ pub fn any_length(random: &mut Random, points: usize) -> usize {
         _ => random.below(2 * points + 3),
     }
 }
+
+/// The length of a room that is enough more often than not.
+pub fn often_enough(random: &mut Random, points: usize) -> usize {
+    random.pick(&[enough, enough, any_length])(random, points)
+}
