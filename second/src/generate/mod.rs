@@ -154,7 +154,7 @@ pub const KINDS: &[Kind] = &[
     picture("bitmap-sides", 20, bitmaps::sides),
     picture("bitmap-round", 4, bitmaps::round),
     picture("bitmap-large", 2, bitmaps::large),
-    picture("bitmap-full", 1, bitmaps::full),
+    picture("bitmap-full", 2, bitmaps::full),
     picture("bitmap-black", 3, bitmaps::black),
     picture("bitmap-missing", 3, bitmaps::missing),
     picture("bitmap-comments", 25, bitmap_faults::comments),
@@ -164,7 +164,7 @@ pub const KINDS: &[Kind] = &[
     picture("bitmap-sizes", 30, bitmap_faults::sizes),
     picture("bitmap-ends", 25, bitmap_faults::ends),
     picture("bitmap-after", 15, bitmap_faults::after),
-    picture("bitmap-long", 1, bitmap_faults::long),
+    picture("bitmap-long", 2, bitmap_faults::long),
 ];
 
 /// Requests without end: for every call that is reached one at each place.
