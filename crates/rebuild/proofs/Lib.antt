@@ -3,6 +3,7 @@ pub mod Passing
 pub mod Outlining
 pub mod Following
 pub mod Straying
+pub mod Seeking
 pub mod Misplacing
 pub mod Refusing
 pub mod Rebuilding

@@ -25,11 +25,11 @@ use Rattle.order.specs.Row.{RunsTo}
 use Rattle.stretch.specs.Stretch.{cell, Within, Peak, StretchOf}
 use Rattle.stretch.specs.declared.Stretch.{Stretch}
 use Rattle.stretch.proofs.Counting.{is-cell-before, is-before-cell}
-use Rattle.walk.specs.Walk.{HullOf, Cornered, CountOf}
+use Rattle.walk.specs.Walk.{HullOf, Cornered}
 use Rattle.walk.proofs.Walking.{nothing, nothing-listed, firstRow, lastRow, in-rows}
 use Rattle.walk.proofs.Rows.{rows-rise, from-next}
 use Rattle.walk.proofs.Loops.{Counted, counted-none, counted-more, counted-all}
-use Rattle.rebuild.specs.Looking.{FirstBelow, MisplacedAt, InOneRow, EndMisplaced, Sees}
+use Rattle.rebuild.specs.Looking.{MisplacedAt, InOneRow, EndMisplaced, Sees}
 use Rattle.rebuild.proofs.Passing.{Passing, passing-none, passing-stops, passing-ends}
 
 -- ---- a corner
@@ -121,10 +121,13 @@ module _ (outline : List ℕ) (s : Stretch) (l : List Point) (begin end : ℕ) (
   unpacked-at-place j v = unpacked-packed (point l j) (range-at j v)
 
   -- the packed point that is looked at is the one at a place
+  pub looked-at : (j : ℕ) → j < end → (k : ℕ) → k ≡ packed (point l j) → unpacked k ≡ point l j
+  looked-at j v k e = ap unpacked e ∙ unpacked-at-place j v
+
   pub misplaced-at : (j : ℕ) → begin ≤ j → j < end → (k : ℕ) → k ≡ packed (point l j) → (b : Bool) → Tells b (Misplaced (map unpacked outline) (unpacked k)) → Tells b (Fault j)
   misplaced-at j u v k e b t =
-      let f : unpacked k ≡ point l j = ap unpacked e ∙ unpacked-at-place j v in
-      tells-as b (λ m. (omega (arith, h .inside), subst (Misplaced (map unpacked outline)) f m)) (λ m. subst (Misplaced (map unpacked outline)) (sym f) (m .1)) t
+      tells-as b (λ m. (omega (arith, h .inside), subst (Misplaced (map unpacked outline)) (looked-at j v k e) m))
+      (λ m. subst (Misplaced (map unpacked outline)) (sym (looked-at j v k e)) (m .1)) t
 
   module _ (order : Pairs Before l) (some : begin < end) (n : Fault begin → ⊥) (m : Fault (end - 1) → ⊥) where
     from-first : s .from ≤ packed (point l begin) % side

@@ -6,7 +6,7 @@ use Prim.Native.Nat.{ℕ, _-_, _/_, _≤_, _<_}
 use lib.ListN.{length, getD, take}
 use lib.IntN.{ℤ, pos}
 use lib.Signed.{_<ℤ_}
-use Rattle.lattice.specs.Point.{Point, InRange, most, points, point, All, Before}
+use Rattle.lattice.specs.Point.{Point, InRange, most, points, point, In, All, Before}
 use Rattle.lattice.specs.Hull.{turn}
 use Rattle.lattice.specs.Refusal.{Table, accepted, Gives, AtPoint, Strays, OutOfRange, Misplaced, rebuildRows}
 use Rattle.packed.specs.Packed.{side, packed, unpacked}
@@ -64,6 +64,20 @@ MisplacedAt outline missing = AtPoint (Misplaced (map unpacked outline)) (points
 abbrev pub FirstMisplaced : List ℕ → List ℤ → ℕ → Type 0
 FirstMisplaced outline missing = FirstBelow (length (points missing)) (MisplacedAt outline missing)
 
+-- the corner at a place
+abbrev pub at : List ℕ → ℕ → Point
+at outline i = unpacked (getD outline i 0)
+
+-- no corner is a missing point
+abbrev pub Apart : List ℕ → List ℤ → Type 0
+Apart outline missing = (i : ℕ) → i < length outline → In (at outline i) (points missing) → ⊥
+
+-- the points before place r, and no others, are smaller than k when packed
+pub record Sought (l : List Point) (k r : ℕ) : Type 0 where
+  pub upto : r ≤ length l
+  pub below : (j : ℕ) → j < r → packed (point l j) < k
+  pub above : (j : ℕ) → r ≤ j → j < length l → k ≤ packed (point l j)
+
 -- the points from place `begin` to before `end` are in row y, whose columns in the hull are those of the stretch
 pub record InOneRow (outline : List ℕ) (s : Stretch) (l : List Point) (begin end : ℕ) : Type 0 where
   pub cornered : Cornered outline
@@ -88,10 +102,6 @@ pub record Sees (outline : List ℕ) (missing : List ℤ) (seen : Seen) : Type 0
 pub record LooksOn (outline : List ℕ) (missing : List ℤ) (looked : Looked) : Type 0 where
   pub rows : Looks (rebuildRows (map unpacked outline) (points missing) accepted) (looked .found)
   pub count : looked .found .number ≡ 0 → CountOf (HullOf outline) (looked .lattice)
-
--- the corner at a place
-abbrev pub at : List ℕ → ℕ → Point
-at outline i = unpacked (getD outline i 0)
 
 -- the points of s stand at the front of an array, packed, in the order of s
 pub record Outlines (s : List Point) (outline : List ℕ) : Type 0 where

@@ -1,7 +1,6 @@
 // Rebuild: the way back, from corners and missing points to the points.
 ghost use mathlib.Core.Path.{_≡_};
 ghost use mathlib.Core.Bool.{true};
-ghost use mathlib.Core.Logic.{_⊎_};
 ghost use mathlib.Core.List.{map};
 ghost use Prim.Native.Nat.{_<_, _≤_, _/_};
 ghost use lib.ListN.{length};
@@ -13,7 +12,7 @@ ghost use Rattle.order.specs.Keys.{Below};
 ghost use Rattle.stretch.specs.Stretch.{StretchOf, Peak};
 ghost use Rattle.walk.specs.Walk.{HullOf, Cornered, Walked, CountOf};
 ghost use Rattle.rebuild.specs.Rebuild.{inputRows, RebuildPromise};
-ghost use Rattle.rebuild.specs.Looking.{Taken, Behind, Resulting, Looks, FirstFrom, FirstOutside, FirstStray, FirstMisplaced, MisplacedAt, InOneRow, EndMisplaced, Sees, LooksOn, Outlines, Follows};
+ghost use Rattle.rebuild.specs.Looking.{Taken, Behind, Resulting, Looks, FirstFrom, FirstOutside, FirstStray, MisplacedAt, Apart, Sought, InOneRow, EndMisplaced, Sees, LooksOn, Outlines, Follows};
 use stretch::Stretch;
 
 // What Rebuild answers: number and place, 0 and 0 if accepted, and how many points there are.
@@ -37,6 +36,9 @@ struct Looked {
 }
 
 const SIDE: u32 = 16384;
+
+// A missing list that is shorter is a short one: the rows whose ends have to be looked for among the corners are few.
+const SHORT: usize = 1024;
 
 // The point at a place of a list, packed.
 fn key_at(list: &[i32], i: usize) -> u32
@@ -210,9 +212,62 @@ fn is_corner(outline: &[u32], k: u32) -> bool
     false
 }
 
-// Whether a packed point is outside the corners' hull, or is a corner: only the ends of a row's stretch can be one.
-fn is_misplaced(outline: &[u32], stretch: Stretch, k: u32) -> bool
-    requires { ⌜ Cornered (now outline) × StretchOf (map unpacked (now outline)) (k / side) stretch ⌝ }
+// Where a packed point stands among the missing points, or would stand: they are halved until one place is left.
+fn place_among(missing: &[i32], k: u32) -> usize
+    requires { ⌜ All InRange (points (now missing)) × Pairs Before (points (now missing)) ⌝ }
+    ensures { λ r. ⌜ Sought (points (now (missing .entry))) k r ⌝ }
+{
+    let mut low: usize = 0;
+    let mut high = missing.len() / 2;
+    while low < high {
+        let middle = low + (high - low) / 2;
+        if key_at(missing, middle) < k {
+            low = middle + 1;
+        } else {
+            high = middle;
+        }
+    }
+    low
+}
+
+// Whether a packed point is a missing point.
+fn is_missing(missing: &[i32], k: u32) -> bool
+    requires { ⌜ All InRange (points (now missing)) × Pairs Before (points (now missing)) ⌝ }
+    ensures { λ r. ⌜ Tells r (In (unpacked k) (points (now (missing .entry)))) ⌝ }
+{
+    let place = place_among(missing, k);
+    if missing.len() / 2 <= place {
+        return false;
+    }
+    if key_at(missing, place) == k {
+        return true;
+    }
+    false
+}
+
+// Whether it is known that no corner is a missing point: then the ends of the rows need not be looked for among the corners. For a short list
+// that is looked for sooner.
+fn all_apart(outline: &[u32], missing: &[i32]) -> bool
+    requires { ⌜ All InRange (points (now missing)) × Pairs Before (points (now missing)) ⌝ }
+    ensures { λ r. ⌜ (r ≡ true → Apart (now (outline .entry)) (now (missing .entry))) ⌝ }
+{
+    if missing.len() < SHORT {
+        return false;
+    }
+    let mut i: usize = 0;
+    while i < outline.len() {
+        if is_missing(missing, outline[i]) {
+            return false;
+        }
+        i += 1;
+    }
+    true
+}
+
+// Whether a packed point is outside the corners' hull, or is a corner: only the ends of a row's stretch can be one, and none if corners and
+// missing points are known to be apart.
+fn is_misplaced(outline: &[u32], stretch: Stretch, k: u32, apart: bool) -> bool
+    requires { ⌜ Cornered (now outline) × StretchOf (map unpacked (now outline)) (k / side) stretch × (apart ≡ true → In (unpacked k) (map unpacked (now outline)) → ⊥) ⌝ }
     ensures { λ r. ⌜ Tells r (Misplaced (map unpacked (now (outline .entry))) (unpacked k)) ⌝ }
 {
     let x = k % SIDE;
@@ -221,6 +276,9 @@ fn is_misplaced(outline: &[u32], stretch: Stretch, k: u32) -> bool
     }
     if stretch.to <= x {
         return true;
+    }
+    if apart {
+        return false;
     }
     if x == stretch.from {
         return is_corner(outline, k);
@@ -236,22 +294,23 @@ fn ends_misplaced(
     outline: &[u32],
     stretch: Stretch,
     missing: &[i32],
+    apart: bool,
     begin: usize,
     end: usize,
 ) -> bool
-    requires { ⌜ InOneRow (now outline) stretch (points (now missing)) begin end ⌝ }
+    requires { ⌜ InOneRow (now outline) stretch (points (now missing)) begin end × (apart ≡ true → Apart (now outline) (now missing)) ⌝ }
     ensures { λ r. ⌜ Tells r (EndMisplaced (now (outline .entry)) (now (missing .entry)) begin end) ⌝ }
 {
     if begin == end {
         return false;
     }
-    if is_misplaced(outline, stretch, key_at(missing, begin)) {
+    if is_misplaced(outline, stretch, key_at(missing, begin), apart) {
         return true;
     }
     if begin + 1 == end {
         return false;
     }
-    is_misplaced(outline, stretch, key_at(missing, end - 1))
+    is_misplaced(outline, stretch, key_at(missing, end - 1), apart)
 }
 
 // The first of a row's points that is misplaced, where its first or its last is.
@@ -259,15 +318,16 @@ fn misplaced_in_row(
     outline: &[u32],
     stretch: Stretch,
     missing: &[i32],
+    apart: bool,
     begin: usize,
     end: usize,
 ) -> usize
-    requires { ⌜ InOneRow (now outline) stretch (points (now missing)) begin end × EndMisplaced (now outline) (now missing) begin end ⌝ }
+    requires { ⌜ InOneRow (now outline) stretch (points (now missing)) begin end × (apart ≡ true → Apart (now outline) (now missing)) × EndMisplaced (now outline) (now missing) begin end ⌝ }
     ensures { λ r. ⌜ FirstFrom begin (MisplacedAt (now (outline .entry)) (now (missing .entry))) r ⌝ }
 {
     let mut i: usize = begin;
     while i < end - 1 {
-        if is_misplaced(outline, stretch, key_at(missing, i)) {
+        if is_misplaced(outline, stretch, key_at(missing, i), apart) {
             return i;
         }
         i += 1;
@@ -281,6 +341,7 @@ fn misplaced_by_rows(outline: &[u32], peak: usize, missing: &[i32]) -> Seen
     requires { ⌜ Cornered (now outline) × Peak (now outline) peak × All InRange (points (now missing)) × Pairs Before (points (now missing)) ⌝ }
     ensures { λ r. ⌜ Sees (now (outline .entry)) (now (missing .entry)) r ⌝ }
 {
+    let apart = all_apart(outline, missing);
     let last = outline[peak] / SIDE;
     let mut crossing = stretch::start();
     let mut lattice: u64 = 0;
@@ -290,9 +351,9 @@ fn misplaced_by_rows(outline: &[u32], peak: usize, missing: &[i32]) -> Seen
         crossing = stretch::of_next(outline, peak, y, crossing);
         let stretch = crossing.stretch;
         let end = walk::end_of_row(missing, packed::placed(y), begin);
-        if ends_misplaced(outline, stretch, missing, begin, end) {
+        if ends_misplaced(outline, stretch, missing, apart, begin, end) {
             return Seen {
-                place: misplaced_in_row(outline, stretch, missing, begin, end),
+                place: misplaced_in_row(outline, stretch, missing, apart, begin, end),
                 lattice: 0,
             };
         }

@@ -2,5 +2,6 @@
 pub mod Lending
 pub mod Rows
 pub mod Gaps
+pub mod Filling
 pub mod Walking
 pub mod Loops

@@ -2,7 +2,7 @@
 use Rattle.rebuild.proofs.all_follow.Statement.{statement}
 use Rattle.rebuild.proofs.all_follow.Tie as tie
 use Prim.Native.Nat.{ℕ, suc, _<_, _≤_, _+_, _-_}
-use mathlib.Core.Path.{_≡_, _∙_, ap}
+use mathlib.Core.Path.{_∙_, ap}
 use mathlib.Core.List.{List}
 use native.Mathlib.Omega.{arith}
 use native.Mathlib.Numerals.{add-one}

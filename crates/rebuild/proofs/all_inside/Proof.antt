@@ -1,14 +1,12 @@
 -- `rebuild::all_inside` meets its contract: a turn of the loop looks at one point more. Assumes nothing.
 use Rattle.rebuild.proofs.all_inside.Statement.{statement}
 use Rattle.rebuild.proofs.all_inside.Tie as tie
-use Prim.Native.Nat.{ℕ, _<_, _≤_, _-_}
+use Prim.Native.Nat.{_<_, _≤_, _-_}
 use mathlib.Core.Path.{_≡_, sym, subst}
-use mathlib.Core.List.{List}
 use native.Mathlib.Omega.{arith}
 use borrow.Author.Needs.{needs}
 use denote.Ref.{now}
 use lib.ListN.{length}
-use lib.IntN.{ℤ}
 use Rattle.lattice.specs.Point.{InRange, points, point}
 use Rattle.lattice.proofs.Numbers.{points-length}
 use Rattle.lattice.proofs.Places.{all-place, place-all}

@@ -3,7 +3,6 @@ use borrow.Author.Needs.{needs}
 use Rattle.rebuild.proofs.first_outside.Statement.{statement}
 use Rattle.rebuild.proofs.first_outside.Tie as tie
 use mathlib.Core.Path.{sym}
-use borrow.Author.Needs.{needs}
 use denote.Ref.{now}
 use lib.ListN.{length}
 use Rattle.lattice.specs.Point.{InRange, points}

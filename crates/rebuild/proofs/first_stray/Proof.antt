@@ -3,7 +3,6 @@ use borrow.Author.Needs.{needs}
 use Rattle.rebuild.proofs.first_stray.Statement.{statement}
 use Rattle.rebuild.proofs.first_stray.Tie as tie
 use mathlib.Core.Path.{sym}
-use borrow.Author.Needs.{needs}
 use denote.Ref.{now}
 use lib.ListN.{length}
 use Rattle.lattice.specs.Point.{points}

@@ -2,7 +2,8 @@
 use Rattle.rebuild.proofs.misplaced_by_rows.Statement.{statement}
 use Rattle.rebuild.proofs.misplaced_by_rows.Tie as tie
 use Prim.Native.Nat.{_<_, _+_, _-_, _/_}
-use mathlib.Core.Path.{_∙_, subst}
+use mathlib.Core.Path.{_≡_, _∙_, subst}
+use mathlib.Core.Bool.{true}
 use mathlib.Core.List.{List}
 use native.Mathlib.Omega.{arith}
 use borrow.Author.Needs.{needs}
@@ -14,42 +15,45 @@ use Rattle.packed.specs.Packed.{side, placed}
 use Rattle.packed.proofs.Tests.{read-back, tells-yes, tells-no}
 use Rattle.order.specs.Row.{RunsTo}
 use Rattle.walk.proofs.Walking.{some, peaked, last-row}
-use Rattle.rebuild.specs.Looking.{MisplacedAt, InOneRow}
+use Rattle.rebuild.specs.Looking.{MisplacedAt, Apart, InOneRow}
 use Rattle.rebuild.proofs.Passing.{passing-then}
 use Rattle.rebuild.proofs.Misplacing.{Looking, looking-none, one-row, looking-more, looking-all}
 
 abbrev Inv-loop : tie.InvT-loop
-Inv-loop outline peak missing last crossing₀ lattice₀ begin₀ y₀ crossing lattice begin y = Looking outline missing last y begin lattice
+Inv-loop outline peak missing apart last crossing₀ lattice₀ begin₀ y₀ crossing lattice begin y = Looking outline missing last y begin lattice
 
 abbrev μ-loop : tie.MeasureT-loop
-μ-loop outline peak missing last crossing₀ lattice₀ begin₀ y₀ crossing lattice begin y = last + 1 - y
+μ-loop outline peak missing apart last crossing₀ lattice₀ begin₀ y₀ crossing lattice begin y = last + 1 - y
+
+all-apart-requires : tie.Need-all-apart-requires Inv-loop μ-loop
+all-apart-requires c κs = (c .before .pre .2, c .before .pre .3)
 
 mul-last : tie.Need-mul-last Inv-loop μ-loop
-mul-last c = omega (arith, c .before .pre .1 .inside)
+mul-last c = omega (arith, c .before .before .pre .1 .inside)
 
 shared-slice-read-last : tie.Need-shared-slice-read-last Inv-loop μ-loop
-shared-slice-read-last c = c .before .before .pre .1 .inside
+shared-slice-read-last c = c .before .before .before .pre .1 .inside
 
 start-requires : tie.Need-start-requires Inv-loop μ-loop
 start-requires c κs = search needs
 
 shared-slice-read-y : tie.Need-shared-slice-read-y Inv-loop μ-loop
-shared-slice-read-y c = let a = c .before .before .before .before in some _ (a .pre .0) _ (a .pre .1)
+shared-slice-read-y c = let a = c .before .before .before .before .before in some _ (a .pre .0) _ (a .pre .1)
 
 loop-holds : tie.Need-loop-holds Inv-loop μ-loop
-loop-holds c = let a = c .before .before .before .before in
+loop-holds c = let a = c .before .before .before .before .before in
     looking-none _ _ (a .pre .0) _ (a .pre .1)
 
 -- the missing points; no row of the hull is past the range
 abbrev missing-of : tie.At-loop Inv-loop μ-loop → List ℤ
-missing-of c = now (c .before .before .before .before .before .args .missing)
+missing-of c = now (c .before .before .before .before .before .before .args .missing)
 
-few : (c : tie.At-loop Inv-loop μ-loop) → let a = c .before .before .before .before .before in getD (now (a .args .outline)) (a .args .peak) 0 / side < side
-few c = let a = c .before .before .before .before .before in last-row _ (a .pre .0) _ (a .pre .1)
+few : (c : tie.At-loop Inv-loop μ-loop) → let a = c .before .before .before .before .before .before in getD (now (a .args .outline)) (a .args .peak) 0 / side < side
+few c = let a = c .before .before .before .before .before .before in last-row _ (a .pre .0) _ (a .pre .1)
 
 of-next-requires : tie.Need-of-next-requires Inv-loop μ-loop
 of-next-requires c κs = let l = c .before in
-    let a = l .before .before .before .before .before in
+    let a = l .before .before .before .before .before .before in
     peaked _ (a .pre .0) _ (a .pre .1) _ (l .loop .inv .counted .between .from) (c .loop-test .taken)
 
 placed-requires : tie.Need-placed-requires Inv-loop μ-loop
@@ -57,7 +61,7 @@ placed-requires c κs = omega (arith, few (c .before .before .before), c .before
 
 end-of-row-requires : tie.Need-end-of-row-requires Inv-loop μ-loop
 end-of-row-requires c κs = let l = c .before .before .before .before in
-    (l .before .before .before .before .before .pre .3, l .loop .inv .passing .upto)
+    (l .before .before .before .before .before .before .pre .3, l .loop .inv .passing .upto)
 
 -- the points of the row
 runs : (c : tie.After-end-of-row Inv-loop μ-loop) → let l = c .before .before .before .before .before in
@@ -68,23 +72,29 @@ runs c = let l = c .before .before .before .before .before in
 
 in-row : (c : tie.After-end-of-row Inv-loop μ-loop) → let o = c .before .before .before in
     let l = o .before .before in
-    InOneRow (now (l .before .before .before .before .before .args .outline)) (o .of-next .result .stretch) (points (missing-of l)) (l .loop .begin) (c .end-of-row .result)
+    InOneRow (now (l .before .before .before .before .before .before .args .outline)) (o .of-next .result .stretch) (points (missing-of l)) (l .loop .begin) (c .end-of-row .result)
 in-row c = let o = c .before .before .before in
     let l = o .before .before in
-    let a = l .before .before .before .before .before in
+    let a = l .before .before .before .before .before .before in
     one-row _ (missing-of l) (a .pre .0) _ (a .pre .1) _ _ _ (l .loop .inv) (a .pre .3) (a .pre .2) _ (runs c) _ (o .of-next .ensures)
 
+-- what is known of corners and missing points
+known : (c : tie.After-end-of-row Inv-loop μ-loop) → let l = c .before .before .before .before .before in
+    let k = l .before .before .before .before in
+    k .all-apart .result ≡ true → Apart (now (k .before .before .args .outline)) (missing-of l)
+known c = c .before .before .before .before .before .before .before .before .before .all-apart .ensures
+
 ends-misplaced-requires : tie.Need-ends-misplaced-requires Inv-loop μ-loop
-ends-misplaced-requires c κs = in-row c
+ends-misplaced-requires c κs = (in-row c, known c)
 
 misplaced-in-row-requires : tie.Need-misplaced-in-row-requires Inv-loop μ-loop
-misplaced-in-row-requires c κs = (in-row (c .before .before), tells-yes (c .if1 .taken) (c .before .ends-misplaced .ensures))
+misplaced-in-row-requires c κs = (in-row (c .before .before), known (c .before .before), tells-yes (c .if1 .taken) (c .before .ends-misplaced .ensures))
 
 returns : tie.Need-returns Inv-loop μ-loop
 returns c = let l = c .before .before .before .before .before .before .before .before in
     let f = c .misplaced-in-row .ensures in
     record {
-      first = passing-then (length (points (missing-of l))) (MisplacedAt (now (l .before .before .before .before .before .args .outline)) (missing-of l)) _ (l .loop .inv .passing) _ (f .here .0) f;
+      first = passing-then (length (points (missing-of l))) (MisplacedAt (now (l .before .before .before .before .before .before .args .outline)) (missing-of l)) _ (l .loop .inv .passing) _ (f .here .0) f;
       count = λ k. absurd (omega (arith, k, f .here .0));
     }
 
@@ -111,13 +121,13 @@ loop-again c = let m = c .before .before in
     let e = m .before in
     let o = e .before .before .before in
     let l = o .before .before in
-    let a = l .before .before .before .before .before in
+    let a = l .before .before .before .before .before .before in
     looking-more _ (missing-of l) (a .pre .0) _ (a .pre .1) _ _ _ (l .loop .inv) (a .pre .3) (a .pre .2) _ (runs e) _ (o .of-next .ensures) (o .before .loop-test .taken)
     (tells-no (c .before .if1 .left) (m .ends-misplaced .ensures))
 
 returns-2 : tie.Need-returns-2 Inv-loop μ-loop
 returns-2 c = let l = c .before in
-    let a = l .before .before .before .before .before in
+    let a = l .before .before .before .before .before .before in
     looking-all _ (missing-of l) (a .pre .0) _ (a .pre .1) _ _ _ (l .loop .inv) (omega (arith, c .loop-test .left))
 
 pub misplaced-by-rows-spec : {M : Type 1} → statement M
@@ -126,6 +136,7 @@ misplaced-by-rows-spec =
     (tie.spec
     Inv-loop
     μ-loop
+    all-apart-requires
     mul-last
     shared-slice-read-last
     start-requires

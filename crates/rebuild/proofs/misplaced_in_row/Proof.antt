@@ -11,19 +11,20 @@ use Rattle.packed.proofs.Tests.{tells-yes, tells-no}
 use Rattle.stretch.specs.Stretch.{StretchOf}
 use Rattle.rebuild.specs.Looking.{MisplacedAt}
 use Rattle.rebuild.proofs.Passing.{Going, going-none, going-more, going-stops, going-ends}
-use Rattle.rebuild.proofs.Misplacing.{range-at, stretch-at, misplaced-at}
+use Rattle.rebuild.proofs.Seeking.{apart-at}
+use Rattle.rebuild.proofs.Misplacing.{range-at, stretch-at, looked-at, misplaced-at}
 
 abbrev Inv-loop : tie.InvT-loop
-Inv-loop outline stretch missing begin end i₀ i = Going begin (end - 1) (MisplacedAt outline missing) i
+Inv-loop outline stretch missing apart begin end i₀ i = Going begin (end - 1) (MisplacedAt outline missing) i
 
 abbrev μ-loop : tie.MeasureT-loop
-μ-loop outline stretch missing begin end i₀ i = end - 1 - i
+μ-loop outline stretch missing apart begin end i₀ i = end - 1 - i
 
 loop-holds : tie.Need-loop-holds Inv-loop μ-loop
-loop-holds c = going-none _ _ _ (omega (arith, c .before .pre .1 .some))
+loop-holds c = going-none _ _ _ (omega (arith, c .before .pre .2 .some))
 
 sub-loop : tie.Need-sub-loop Inv-loop μ-loop
-sub-loop c = omega (arith, c .before .before .pre .1 .some)
+sub-loop c = omega (arith, c .before .before .pre .2 .some)
 
 -- in a turn the place is one of the row's
 inside : (c : tie.In-loop Inv-loop μ-loop) → c .before .loop .i < c .before .before .before .args .end
@@ -39,6 +40,7 @@ is-misplaced-requires c κs = let l = c .before .before in
       a .pre .0 .cornered,
       subst (λ n. StretchOf (map unpacked (now (a .args .outline))) (n / side) (a .args .stretch)) (sym (c .key-at .ensures .0))
           (stretch-at _ _ _ _ _ (a .pre .0) _ (l .loop .inv .from) (inside (c .before))),
+      λ t. apart-at (now (a .args .outline)) (now (a .args .missing)) (a .pre .1 t) (c .key-at .result) _ (omega (arith, inside (c .before), a .pre .0 .inside)) (looked-at _ _ _ _ _ (a .pre .0) _ (inside (c .before)) _ (c .key-at .ensures .0)),
     )
 
 returns : tie.Need-returns Inv-loop μ-loop
@@ -63,7 +65,7 @@ loop-again c = let k = c .before .before in
 
 returns-2 : tie.Need-returns-2 Inv-loop μ-loop
 returns-2 c = let l = c .before in
-    going-ends _ _ _ _ (l .loop .inv) (c .loop-test .left) (l .before .before .pre .1 .which)
+    going-ends _ _ _ _ (l .loop .inv) (c .loop-test .left) (l .before .before .pre .2 .which)
 
 pub misplaced-in-row-spec : {M : Type 1} → statement M
 misplaced-in-row-spec =

@@ -10,7 +10,8 @@ use Rattle.lattice.specs.Point.{InRange, points, All}
 use Rattle.lattice.proofs.Numbers.{points-length}
 use Rattle.walk.specs.Walk.{columnAt}
 use Rattle.walk.proofs.Rows.{row-in-range}
-use Rattle.walk.proofs.Gaps.{Gapping, no-fall, gapping-none, gapping-neighbours, gapping-length, gapping-used, gapping-rest, gapping-fill, gapping-ends}
+use Rattle.walk.proofs.Gaps.{Gapping, gapping-none, gapping-length, gapping-used, gapping-ends}
+use Rattle.walk.proofs.Filling.{no-fall, gapping-neighbours, gapping-rest, gapping-fill}
 
 abbrev Inv-loop : tie.InvT-loop
 Inv-loop row stretch y room₀ n i₀ used₀ x₀ room i used x = Gapping row stretch y x i used room₀ room
