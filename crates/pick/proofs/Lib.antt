@@ -1,0 +1,2 @@
+-- That Pick's formula counts: from counting sets of points over segments, edges and triangles to the hull of a corner list.
+pub mod Number
