@@ -1,2 +1,5 @@
 -- That Pick's formula counts: from counting sets of points over segments, edges and triangles to the hull of a corner list.
 pub mod Number
+pub mod Rectangle
+pub mod Divisor
+pub mod Segment
