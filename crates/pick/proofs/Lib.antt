@@ -3,3 +3,5 @@ pub mod Number
 pub mod Rectangle
 pub mod Divisor
 pub mod Segment
+pub mod Edge
+pub mod EdgeRows

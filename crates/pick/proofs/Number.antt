@@ -5,7 +5,7 @@ use mathlib.Core.Logic.{_⊎_, inl, inr}
 use mathlib.Core.List.{List, [], _∷_, _++_}
 use Prim.Native.Nat.{suc}
 use lib.ListN.{length, length-append}
-use lib.IntN.{ℤ, pos, negsuc, _+ℤ_, _-ℤ_}
+use lib.IntN.{ℤ, pos, negsuc, _+ℤ_, _*ℤ_, _-ℤ_}
 use Rattle.whole.proofs.Whole.{quote, linear≡, _∗≡_}
 use Rattle.lattice.specs.Point.{Point, In, Pairs, Before, Lists}
 use Rattle.lattice.specs.Hull.{Of}
@@ -20,6 +20,10 @@ pub record Number (P : Point → Type 0) (z : ℤ) : Type 0 where
   pub list : List Point
   pub listed : Lists P list
   pub size : pos (length list) ≡ z
+
+-- twice the number of the points with P is z
+abbrev pub Twice : (Point → Type 0) → ℤ → Type 0
+Twice P z = (n : ℤ) × Number P n × (pos 2 *ℤ n ≡ z)
 
 pub number-unique : {P : Point → Type 0} {z w : ℤ} → Number P z → Number P w → z ≡ w
 number-unique {P} h k = sym (h .size) ∙ ap (λ l. pos (length l)) (lists-unique P (h .list) (k .list) (h .listed) (k .listed)) ∙ k .size
