@@ -5,3 +5,5 @@ pub mod Divisor
 pub mod Segment
 pub mod Edge
 pub mod EdgeRows
+pub mod Level
+pub mod LowTriangle
