@@ -29,6 +29,10 @@ pub record LeftOf (X : ℤ) (a b p : Point) : Type 0 where
   pub from-left : X ≤ᶻ p .x
   pub side : Positive (turn a b p)
 
+-- what the two sets have in common, doubled
+abbrev pub strip : ℤ → Point → Point → ℤ
+strip X a b = (b .y -ℤ a .y) *ℤ (a .x +ℤ b .x -ℤ pos 2 *ℤ X +ℤ pos 1) -ℤ (b .x -ℤ a .x)
+
 module _ (X : ℤ) (a b : Point) (up : a .y <ᶻ b .y) (left-a : X ≤ᶻ a .x) (left-b : X ≤ᶻ b .x) (g : ℤ) (steps : Steps a b g) where
   beside : Twice (Beside X a b) ((a .x +ℤ b .x -ℤ pos 2 *ℤ X +ℤ pos 1) *ℤ (b .y -ℤ a .y +ℤ pos 1) +ℤ g +ℤ pos 1)
   beside = twice-beside X a b up left-a left-b g steps
@@ -91,12 +95,12 @@ module _ (X : ℤ) (a b : Point) (up : a .y <ᶻ b .y) (left-a : X ≤ᶻ a .x) 
       (number-union (λ p h k. linear⊥ (p .y ∷ b .y ∷ []) (gap< (h .below-high) ⊞ gap≤ (k .from-low)) (search quote depth 20) tt)
       (left-or-on .1) number-last-row))
 
-  doubled : pos 2 *ℤ left-or-on .0 ≡ (b .y -ℤ a .y) *ℤ (a .x +ℤ b .x -ℤ pos 2 *ℤ X +ℤ pos 1) -ℤ (b .x -ℤ a .x) +ℤ g
+  doubled : pos 2 *ℤ left-or-on .0 ≡ strip X a b +ℤ g
   doubled =
       linear≡ (X ∷ g ∷ beside .0 ∷ left-or-on .0 ∷ coordinates (a ∷ b ∷ [])) (pos 1 ∗≡ beside .2 ∔ negsuc 1 ∗≡ with-last-row)
       (search quote depth 20) tt
 
-  pub twice-left-or-on : Twice (LeftOrOn X a b) ((b .y -ℤ a .y) *ℤ (a .x +ℤ b .x -ℤ pos 2 *ℤ X +ℤ pos 1) -ℤ (b .x -ℤ a .x) +ℤ g)
+  pub twice-left-or-on : Twice (LeftOrOn X a b) (strip X a b +ℤ g)
   twice-left-or-on = (left-or-on .0, left-or-on .1, doubled)
 
   -- ---- and without the edge
@@ -161,7 +165,7 @@ module _ (X : ℤ) (a b : Point) (up : a .y <ᶻ b .y) (left-a : X ≤ᶻ a .x) 
       (number-union (λ p h k. linear⊥ (turn a b p ∷ []) (gap< (h .side) ⊞ pos 1 ⋆≡ k .0 .straight) (search quote depth 20) tt)
       (left-of .1) (on-lower .1)))
 
-  pub twice-left-of : Twice (LeftOf X a b) ((b .y -ℤ a .y) *ℤ (a .x +ℤ b .x -ℤ pos 2 *ℤ X +ℤ pos 1) -ℤ (b .x -ℤ a .x) -ℤ g)
+  pub twice-left-of : Twice (LeftOf X a b) (strip X a b -ℤ g)
   twice-left-of = (
     left-of .0,
     left-of .1,

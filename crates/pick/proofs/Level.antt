@@ -11,7 +11,7 @@ use Rattle.pick.proofs.Number.{Twice, number-same, number-unique, numbe
 use Rattle.pick.proofs.Rectangle.{Rectangle, number-rectangle}
 use Rattle.pick.proofs.Divisor.{Steps}
 use Rattle.pick.proofs.Segment.{Along, number-along}
-use Rattle.pick.proofs.EdgeRows.{LeftOrOn, twice-left-or-on}
+use Rattle.pick.proofs.EdgeRows.{LeftOrOn, strip, twice-left-or-on}
 
 module _ (a b : Point) (g : ℤ) (steps : Steps a b g) (level : a .y ≡ b .y) (right : a .x <ᶻ b .x) where
   row-of-edge : (p : Point) → Along (pos 1) (pos 0) a b p → Rectangle (a .x) (b .x) (a .y) (a .y) p
@@ -53,7 +53,7 @@ module _ (a b : Point) (g : ℤ) (steps : Steps a b g) (level : a .y ≡ b .y) (
 -- an edge that goes up, or level to the right
 pub twice-left-or-level : (X : ℤ) (a b : Point) → X ≤ᶻ a .x → X ≤ᶻ b .x → a .y ≤ᶻ b .y → (a .y ≡ b .y → a .x <ᶻ b .x)
     → (g : ℤ) → Steps a b g
-    → Twice (LeftOrOn X a b) ((b .y -ℤ a .y) *ℤ (a .x +ℤ b .x -ℤ pos 2 *ℤ X +ℤ pos 1) -ℤ (b .x -ℤ a .x) +ℤ g)
+    → Twice (LeftOrOn X a b) (strip X a b +ℤ g)
 twice-left-or-level X a b left-a left-b up right g steps =
     either (le-or-lt (b .y) (a .y))
     (λ k. let level : a .y ≡ b .y = antisymmetric up k in (

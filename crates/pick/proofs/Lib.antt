@@ -7,3 +7,4 @@ pub mod Edge
 pub mod EdgeRows
 pub mod Level
 pub mod LowTriangle
+pub mod HighestLast
