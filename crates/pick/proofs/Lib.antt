@@ -8,3 +8,5 @@ pub mod EdgeRows
 pub mod Level
 pub mod LowTriangle
 pub mod HighestLast
+pub mod HighestSecond
+pub mod LevelTop
