@@ -10,3 +10,5 @@ pub mod LowTriangle
 pub mod HighestLast
 pub mod HighestSecond
 pub mod LevelTop
+pub mod Triangle
+pub mod Fan
