@@ -12,3 +12,4 @@ pub mod HighestSecond
 pub mod LevelTop
 pub mod Triangle
 pub mod Fan
+pub mod Pick
