@@ -92,3 +92,17 @@ pick s c h corners all =
     let r = twice-hull c (corner-list-shape s c corners) in
     ap (λ n. pos 2 *ℤ n) (number-unique (record { list = h; listed = all; size = refl }) (r .1)) ∙ r .2
 
+-- ---- the points missing from a list without repeats, from its corners and the number of its points alone
+pub missing-length : (s c m : List Point) → Pairs (λ a b. a ≡ b → ⊥) s → CornerList s c → MissingList s m
+    → pos 2 *ℤ pos (length m) ≡ twiceCount c -ℤ pos 2 *ℤ pos (length s)
+missing-length s c m once corners missing = let h = hull-list-exists s in by-hull (h .0) (h .1)
+  where
+    within : (p : Point) → InHull (Of s) p ↔ InHull (Of c) p
+    within = hull-of-corners s c corners
+
+    by-hull : (h : List Point) → Lists (InHull (Of s)) h → pos 2 *ℤ pos (length m) ≡ twiceCount c -ℤ pos 2 *ℤ pos (length s)
+    by-hull h all =
+        let counted = pick s c h corners (lists-same (InHull (Of s)) (InHull (Of c)) (λ p. within p .0) (λ p. within p .1) h all) in
+        let sum : pos (length h) ≡ pos (length s) +ℤ pos (length m) = ap pos (missing-count-distinct s h m once all missing) in
+        linear≡ (pos (length m) ∷ pos (length s) ∷ pos (length h) ∷ twiceCount c ∷ []) (pos 1 ∗≡ counted ∔ negsuc 1 ∗≡ sum)
+        (search quote depth 20) tt
