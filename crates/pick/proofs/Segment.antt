@@ -191,7 +191,7 @@ module _ (α β : ℤ) (a b : Point) (g : ℤ) (steps : Steps a b g) (rises : Po
       (number-within-signed part-x part-y times-x times-y one (g +ℤ pos 1) a
       (linear≤ (g ∷ []) (nonnegative ⊞ natural 1) (search quote depth 20) tt))
 
--- ---- it is the hull of its ends
+  -- ---- it is the hull of its ends
   hull-along : (q : Point) → InHull (Of (a ∷ b ∷ [])) q → Along α β a b q
   hull-along q h = record {
     straight = antisymmetric
