@@ -102,7 +102,8 @@ missing-length s c m once corners missing = let h = hull-list-exists s in by-hul
 
     by-hull : (h : List Point) → Lists (InHull (Of s)) h → pos 2 *ℤ pos (length m) ≡ twiceCount c -ℤ pos 2 *ℤ pos (length s)
     by-hull h all =
-        let counted = pick s c h corners (lists-same (InHull (Of s)) (InHull (Of c)) (λ p. within p .0) (λ p. within p .1) h all) in
+        let counted : pos 2 *ℤ pos (length h) ≡ twiceCount c = pick s c h corners
+        (lists-same (InHull (Of s)) (InHull (Of c)) (λ p. within p .0) (λ p. within p .1) h all) in
         let sum : pos (length h) ≡ pos (length s) +ℤ pos (length m) = ap pos (missing-count-distinct s h m once all missing) in
         linear≡ (pos (length m) ∷ pos (length s) ∷ pos (length h) ∷ twiceCount c ∷ []) (pos 1 ∗≡ counted ∔ negsuc 1 ∗≡ sum)
         (search quote depth 20) tt
