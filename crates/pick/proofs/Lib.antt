@@ -13,3 +13,4 @@ pub mod LevelTop
 pub mod Triangle
 pub mod Fan
 pub mod Pick
+pub mod Moved
