@@ -6,7 +6,7 @@ use mathlib.Core.List.{List, [], _∷_}
 use Prim.Native.Nat.{ℕ, suc, _<_}
 use native.Mathlib.Omega.{arith}
 use lib.ListN.{length}
-use lib.IntN.{ℤ, pos, _+ℤ_, _*ℤ_, _-ℤ_}
+use lib.IntN.{ℤ, pos, _+ℤ_, _-ℤ_}
 use Rattle.whole.proofs.Whole.{quote, NonNegative, Positive, gap<, _⊞_, _⊠_, _⋆≡_, linear≤, linear<, linear⊥, le-or-lt, le-of-lt, antisymmetric, nonnegative-factor}
 use Rattle.lattice.specs.Point.{Point, point, In, All, Pairs, Before, row, column}
 use Rattle.lattice.specs.Hull.{turn, InTriangle, InHull, triangle, Of}

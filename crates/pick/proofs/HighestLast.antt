@@ -3,7 +3,7 @@
 use mathlib.Core.Path.{_≡_, sym, ap, subst}
 use mathlib.Core.Logic.{_⊎_, inl, inr}
 use mathlib.Core.List.{List, [], _∷_}
-use lib.IntN.{ℤ, pos, negsuc, negℤ, _+ℤ_, _*ℤ_, _-ℤ_}
+use lib.IntN.{ℤ, pos, negsuc, negℤ, _+ℤ_, _-ℤ_}
 use Rattle.whole.proofs.Whole.{ring, quote, _≤ᶻ_, _<ᶻ_, NonNegative, Positive, natural, gap≤, gap<, _⊞_, _⊠_, _⋆≡_, _∗≡_, _∔_, linear≤, linear<, linear⊥, linear≡, le-or-lt, le-of-lt, le-of-equal, antisymmetric, nonnegative-factor, positive-factor, zero-factor, difference-zero}
 use Rattle.lattice.specs.Point.{Point}
 use Rattle.lattice.specs.Hull.{turn, InTriangle}
@@ -11,7 +11,7 @@ use Rattle.lattice.proofs.Turn.{coordinates}
 use Rattle.lattice.proofs.Lists.{either}
 use Rattle.lattice.proofs.HalfPlane.{point-equal}
 use Rattle.lattice.proofs.Decide.{triangle?}
-use Rattle.pick.proofs.Number.{Number, Twice, number-one, number-union, number-left}
+use Rattle.pick.proofs.Number.{Twice, number-one, number-union, number-left}
 use Rattle.pick.proofs.Divisor.{steps-back}
 use Rattle.pick.proofs.EdgeRows.{LeftOrOn, LeftOf, strip, twice-left-or-on, twice-left-of}
 use Rattle.pick.proofs.Level.{twice-left-or-level}

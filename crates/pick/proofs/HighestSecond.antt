@@ -3,8 +3,8 @@
 use mathlib.Core.Path.{_≡_, sym, ap, subst}
 use mathlib.Core.Logic.{_⊎_, inl, inr}
 use mathlib.Core.List.{List, [], _∷_}
-use lib.IntN.{ℤ, pos, negsuc, negℤ, _+ℤ_, _*ℤ_, _-ℤ_}
-use Rattle.whole.proofs.Whole.{ring, quote, _≤ᶻ_, _<ᶻ_, NonNegative, Positive, natural, gap≤, gap<, _⊞_, _⊠_, _⋆≡_, _∗≡_, _∔_, linear≤, linear<, linear⊥, linear≡, le-or-lt, le-of-lt, le-of-equal, antisymmetric, nonnegative-factor, positive-factor, zero-factor, difference-zero}
+use lib.IntN.{ℤ, pos, negsuc, negℤ, _+ℤ_, _-ℤ_}
+use Rattle.whole.proofs.Whole.{ring, quote, _≤ᶻ_, _<ᶻ_, NonNegative, Positive, natural, gap≤, gap<, _⊞_, _⊠_, _⋆≡_, _∗≡_, _∔_, linear≤, linear<, linear⊥, linear≡, le-or-lt, le-of-lt, le-of-equal, antisymmetric, nonnegative-factor, zero-factor, difference-zero}
 use Rattle.lattice.specs.Point.{Point}
 use Rattle.lattice.specs.Hull.{turn, InTriangle}
 use Rattle.lattice.proofs.Turn.{coordinates}

@@ -4,7 +4,6 @@ use mathlib.Core.List.{[], _∷_}
 use lib.IntN.{ℤ, pos, negsuc, _+ℤ_, _*ℤ_, _-ℤ_}
 use Rattle.whole.proofs.Whole.{quote, _≤ᶻ_, _<ᶻ_, natural, gap≤, gap<, _⊞_, _∗≡_, _∔_, linear≤, linear<, linear⊥, linear≡, le-or-lt, le-of-equal, antisymmetric, zero-factor, difference-zero}
 use Rattle.lattice.specs.Point.{Point}
-use Rattle.lattice.specs.Hull.{turn}
 use Rattle.lattice.proofs.Turn.{coordinates}
 use Rattle.lattice.proofs.Lists.{either}
 use Rattle.pick.proofs.Number.{Twice, number-same, number-unique, number-none}

@@ -1,15 +1,14 @@
 -- Pick's theorem for a triangle with the lowest corner c first and the other two in one row: what is left of ca, and the row from b to a, is
 -- what is left of cb and the triangle. Assumes nothing.
-use mathlib.Core.Path.{_≡_, sym, ap, subst}
+use mathlib.Core.Path.{_≡_, sym}
 use mathlib.Core.Logic.{_⊎_, inl, inr}
 use mathlib.Core.List.{List, [], _∷_}
 use lib.IntN.{ℤ, pos, negsuc, negℤ, _+ℤ_, _*ℤ_, _-ℤ_}
-use Rattle.whole.proofs.Whole.{ring, quote, _≤ᶻ_, _<ᶻ_, NonNegative, Positive, natural, gap≤, gap<, _⊞_, _⊠_, _⋆≡_, _∗≡_, _∔_, linear≤, linear<, linear⊥, linear≡, le-or-lt, le-of-lt, le-of-equal, antisymmetric, nonnegative-factor, positive-factor, zero-factor, difference-zero}
+use Rattle.whole.proofs.Whole.{quote, _≤ᶻ_, _<ᶻ_, NonNegative, Positive, natural, gap≤, gap<, _⊞_, _⊠_, _⋆≡_, _∗≡_, _∔_, linear≤, linear<, linear⊥, linear≡, le-or-lt, le-of-lt, antisymmetric, nonnegative-factor, positive-factor}
 use Rattle.lattice.specs.Point.{Point}
 use Rattle.lattice.specs.Hull.{turn, InTriangle}
 use Rattle.lattice.proofs.Turn.{coordinates}
 use Rattle.lattice.proofs.Lists.{either}
-use Rattle.lattice.proofs.HalfPlane.{point-equal}
 use Rattle.lattice.proofs.Decide.{triangle?}
 use Rattle.pick.proofs.Number.{Number, Twice, number-union, number-left}
 use Rattle.pick.proofs.Rectangle.{Rectangle, number-rectangle}

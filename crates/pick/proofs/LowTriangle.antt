@@ -1,7 +1,7 @@
 -- A triangle whose first corner is a lowest one lies above it, and right of a column that all corners are right of. Assumes nothing.
-use mathlib.Core.List.{List, [], _∷_}
-use lib.IntN.{ℤ, pos, _+ℤ_, _*ℤ_, _-ℤ_}
-use Rattle.whole.proofs.Whole.{quote, _≤ᶻ_, _<ᶻ_, NonNegative, Positive, gap≤, gap<, _⊞_, _⊠_, linear≤, linear<, le-of-lt, nonnegative-factor}
+use mathlib.Core.List.{[], _∷_}
+use lib.IntN.{ℤ, pos, _+ℤ_, _-ℤ_}
+use Rattle.whole.proofs.Whole.{quote, _≤ᶻ_, _<ᶻ_, Positive, gap≤, gap<, _⊞_, _⊠_, linear≤, linear<, le-of-lt, nonnegative-factor}
 use Rattle.lattice.specs.Point.{Point}
 use Rattle.lattice.specs.Hull.{turn, InTriangle}
 use Rattle.lattice.proofs.Turn.{coordinates, Left}

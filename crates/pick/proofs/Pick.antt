@@ -3,12 +3,11 @@
 use mathlib.Core.Path.{_≡_, refl, sym, _∙_, ap, subst}
 use mathlib.Core.Logic.{inl, inr, _↔_}
 use mathlib.Core.List.{List, [], _∷_}
-use Prim.Native.Nat.{ℕ, _+_}
 use lib.ListN.{length}
 use lib.IntN.{ℤ, pos, negsuc, _+ℤ_, _*ℤ_, _-ℤ_}
-use Rattle.whole.proofs.Whole.{quote, Positive, linear≡, _∗≡_, _∔_}
+use Rattle.whole.proofs.Whole.{quote, linear≡, _∗≡_, _∔_}
 use Rattle.lattice.specs.Point.{Point, In, Pairs, Before, Lists}
-use Rattle.lattice.specs.Hull.{turn, InHull, member, triangle, Of, CornerList, MissingList}
+use Rattle.lattice.specs.Hull.{InHull, member, triangle, Of, CornerList, MissingList}
 use Rattle.lattice.proofs.Turn.{coordinates}
 use Rattle.lattice.proofs.Lists.{either}
 use Rattle.lattice.proofs.RowOrder.{before-irreflexive, before-total}
@@ -18,10 +17,10 @@ use Rattle.lattice.proofs.Polygon.{polygon}
 use Rattle.lattice.proofs.SameMembers.{lists-same}
 use Rattle.lattice.proofs.CornerLists.{corner-list-shape, hull-of-corners}
 use Rattle.lattice.proofs.MissingLists.{hull-list-exists, missing-count-distinct}
-use Rattle.pick.specs.Pick.{span, cross, around, area, border, twiceCount}
+use Rattle.pick.specs.Pick.{span, cross, around, twiceCount}
 use Rattle.pick.proofs.Number.{Number, Twice, number-unique, number-same, number-none, number-one}
 use Rattle.pick.proofs.Divisor.{span-steps, steps-back}
-use Rattle.pick.proofs.Segment.{ahead, number-two}
+use Rattle.pick.proofs.Segment.{number-two}
 use Rattle.pick.proofs.Triangle.{pick-triangle}
 use Rattle.pick.proofs.Fan.{rising, hull-triangle, without-second, number-cut}
 

@@ -5,13 +5,13 @@ use mathlib.Core.Logic.{_⊎_, inl, inr}
 use mathlib.Core.List.{[], _∷_}
 use Prim.Native.Nat.{ℕ, zero, suc}
 use lib.IntN.{ℤ, pos, negsuc, negℤ, _+ℤ_, _*ℤ_, _-ℤ_}
-use Rattle.whole.proofs.Whole.{ring, quote, _<ᶻ_, NonNegative, Positive, natural, square-nonnegative, gap<, _⊞_, _⊠_, _⋆≡_, _∗≡_, _∔_, linear≤, linear<, linear⊥, linear≡, le-or-lt, le-of-lt, le-of-equal, antisymmetric, nonnegative-factor, positive-factor, zero-factor, difference-zero}
+use Rattle.whole.proofs.Whole.{ring, quote, _<ᶻ_, NonNegative, Positive, natural, square-nonnegative, gap<, _⊞_, _⊠_, _⋆≡_, _∗≡_, _∔_, linear≤, linear<, linear⊥, linear≡, le-or-lt, le-of-lt, antisymmetric, nonnegative-factor, positive-factor, zero-factor, difference-zero}
 use Rattle.lattice.specs.Point.{Point, In}
 use Rattle.lattice.specs.Hull.{turn, OnSegment, InHull, segment, Of}
 use Rattle.lattice.proofs.Turn.{coordinates, start-on-edge, end-on-edge}
 use Rattle.lattice.proofs.Lists.{either}
 use Rattle.lattice.proofs.HalfPlane.{point-equal, product-between, half-plane, edge-half-plane}
-use Rattle.pick.proofs.Number.{Number, number-same, number-equal, number-none, number-one, number-union}
+use Rattle.pick.proofs.Number.{Number, number-same, number-none, number-one, number-union}
 use Rattle.pick.proofs.Rectangle.{one-more}
 use Rattle.pick.proofs.Divisor.{Divides, Steps}
 

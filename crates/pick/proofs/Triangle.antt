@@ -1,11 +1,10 @@
 -- Pick's theorem for every triangle: one of its corners is a lowest one, and any corner may be named first. Assumes nothing.
 use mathlib.Core.Path.{sym}
 use mathlib.Core.List.{[], _∷_}
-use lib.IntN.{ℤ, pos, _+ℤ_, _*ℤ_, _-ℤ_}
+use lib.IntN.{ℤ, pos, _-ℤ_}
 use Rattle.whole.proofs.Whole.{quote, _≤ᶻ_, _<ᶻ_, gap≤, gap<, _⊞_, _⋆≡_, _∗≡_, natural, linear≤, linear<, linear⊥, linear≡, Sign, below, nought, above, sign, le-or-lt, le-of-equal, le-of-lt, antisymmetric, difference-zero}
 use mathlib.Core.Path.{refl}
 use Rattle.lattice.specs.Point.{Point}
-use Rattle.lattice.specs.Hull.{turn, InTriangle}
 use Rattle.lattice.proofs.Turn.{coordinates, Left}
 use Rattle.lattice.proofs.Lists.{either}
 use Rattle.pick.proofs.Number.{number-same}
