@@ -61,6 +61,21 @@ euclid-divides (suc steps) a (suc b) h =
 divisor-divides : (a b : ℕ) → Divides (pos (divisor a b)) (pos a) (pos b)
 divisor-divides a b = euclid-divides (suc b) a b (omega arith)
 
+-- ---- a step of the loop: more steps than are needed change nothing
+euclid-steps : (j k a b : ℕ) → b < j → b < k → euclid j a b ≡ euclid k a b
+euclid-steps zero k a b h g = absurd (never-below-zero b h)
+euclid-steps (suc j) zero a b h g = absurd (never-below-zero b g)
+euclid-steps (suc j) (suc k) a zero h g = refl
+euclid-steps (suc j) (suc k) a (suc b) h g =
+    let m : a % suc b < suc b = mod-lt a (omega arith) in
+    euclid-steps j k (suc b) (a % suc b) (omega arith) (omega arith)
+
+pub divisor-step : (a b : ℕ) → 0 < b → divisor a b ≡ divisor b (a % b)
+divisor-step a zero h = absurd (never-below-zero 0 h)
+divisor-step a (suc b) h =
+    let m : a % suc b < suc b = mod-lt a (omega arith) in
+    euclid-steps (suc b) (suc (a % suc b)) (suc b) (a % suc b) (omega arith) (omega arith)
+
 -- ---- signs
 negative-x : {x y g : ℤ} → Divides g x y → Divides g (negℤ x) y
 negative-x {x} {y} {g} h = record {

@@ -1,11 +1,11 @@
--- Pick's formula, doubled, over a corner list: twice the area by the edges, the border by the steps of the edges (document 02, wish 9).
--- Assumes nothing; proofs/Pick.antt proves that it counts the lattice points of the hull.
+-- Pick's formula, doubled, over a corner list: twice the area by the edges, the border by the steps of the edges (document 02, wish 9; source
+-- document 004, section 2.2). Assumes nothing; proofs/Pick.antt proves that it counts the lattice points of the hull.
 use mathlib.Core.List.{List, [], _∷_}
 use Prim.Native.Nat.{ℕ, zero, suc, _%_}
 use lib.IntN.{ℤ, pos, natAbs, _+ℤ_, _*ℤ_, _-ℤ_}
 use Rattle.lattice.specs.Point.{Point}
 
--- the greatest common divisor, by Euclid's steps: at most `steps` of them
+-- "which requires the computation of a greatest common divisor" (004): by Euclid's steps, at most `steps` of them
 abbrev pub euclid : ℕ → ℕ → ℕ → ℕ
 euclid zero a b = a
 euclid (suc steps) a zero = a
@@ -27,17 +27,17 @@ abbrev pub around : (Point → Point → ℤ) → Point → Point → List Point
 around f first a [] = f a first
 around f first a (b ∷ l) = f a b +ℤ around f first b l
 
--- "by the area and boundary count of Pick's formula": twice the area
+-- "the computation of the area of conv(S)" (004): twice the area
 abbrev pub area : List Point → ℤ
 area [] = pos 0
 area (a ∷ l) = around cross a a l
 
--- and the lattice points of the border; two corners are counted along both ways of their one edge
+-- "and of the number of lattice points lying on its boundary" (004): each edge has as many as steps, its end left out; two corners are counted along both ways of their one edge
 abbrev pub border : List Point → ℤ
 border [] = pos 0
 border (a ∷ l) = around span a a l
 
--- twice the number of lattice points, "grains of no, one and two corners included"
+-- "by the area and boundary count of Pick's formula": twice the number of lattice points, "grains of no, one and two corners included"
 abbrev pub twiceCount : List Point → ℤ
 twiceCount [] = pos 0
 twiceCount (a ∷ []) = pos 2
