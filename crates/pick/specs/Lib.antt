@@ -1,0 +1,2 @@
+-- Pick's formula.
+pub mod Pick
