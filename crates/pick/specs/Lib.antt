@@ -1,2 +1,3 @@
--- Pick's formula.
+-- Pick's formula; what solidity with square pixels divides.
 pub mod Pick
+pub mod Solid
