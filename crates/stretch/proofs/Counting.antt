@@ -45,7 +45,7 @@ at-least x bound steep top s e = (
         le-div-iff-mul-le s .1 g
 
 -- ---- an edge in natural numbers: the columns of both its ends, each taken as often as there are rows from row y to the other end
-abbrev weighed : ℕ → ℕ → ℕ → ℕ → ℕ
+abbrev pub weighed : ℕ → ℕ → ℕ → ℕ → ℕ
 weighed a b passed rest = a % side * rest + b % side * passed
 
 module _ (a b y x passed rest : ℕ) (e : y ≡ a / side + passed) (f : b / side ≡ a / side + passed + rest) where
