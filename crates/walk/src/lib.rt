@@ -97,12 +97,12 @@ pub fn count(corners: &[u32]) -> u64
     }
     let peak = peak(corners);
     let last_row = corners[peak] / SIDE;
-    let mut crossing = stretch::start();
+    let mut crossing = stretch::start(corners, peak);
     let mut total: u64 = 0;
     let mut y = corners[0] / SIDE;
     while y <= last_row {
-        crossing = stretch::of_next(corners, peak, y, crossing);
-        let stretch = crossing.stretch;
+        let stretch = stretch::across(crossing);
+        crossing = stretch::next(corners, peak, y, crossing);
         total += (stretch.to - stretch.from) as u64;
         y += 1;
     }
@@ -119,15 +119,15 @@ pub fn first(corners: &[u32], list: &[i32]) -> u32
     }
     let peak = peak(corners);
     let last = corners[peak] / SIDE;
-    let mut crossing = stretch::start();
+    let mut crossing = stretch::start(corners, peak);
     let mut begin: usize = 0;
     let mut y = corners[0] / SIDE;
     'rows: loop {
         if last < y {
             break 'rows NONE;
         }
-        crossing = stretch::of_next(corners, peak, y, crossing);
-        let columns = crossing.stretch;
+        let columns = stretch::across(crossing);
+        crossing = stretch::next(corners, peak, y, crossing);
         let end = end_of_row(list, packed::placed(y), begin);
         let row = &list[2 * begin..2 * end];
         let mut x = columns.from;
@@ -223,13 +223,13 @@ pub fn write(corners: &[u32], list: &[i32], room: &mut [i32]) -> usize
     }
     let peak = peak(corners);
     let last = corners[peak] / SIDE;
-    let mut crossing = stretch::start();
+    let mut crossing = stretch::start(corners, peak);
     let mut used: usize = 0;
     let mut begin: usize = 0;
     let mut y = corners[0] / SIDE;
     while y <= last {
-        crossing = stretch::of_next(corners, peak, y, crossing);
-        let stretch = crossing.stretch;
+        let stretch = stretch::across(crossing);
+        crossing = stretch::next(corners, peak, y, crossing);
         let end = end_of_row(list, packed::placed(y), begin);
         used += write_row(&list[2 * begin..2 * end], stretch, y, &mut room[2 * used..]);
         begin = end;
