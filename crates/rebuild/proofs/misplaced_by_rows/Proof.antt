@@ -1,26 +1,28 @@
 -- `rebuild::misplaced_by_rows` meets its contract: a turn of the loop passes one row more. Assumes nothing.
 use Rattle.rebuild.proofs.misplaced_by_rows.Statement.{statement}
 use Rattle.rebuild.proofs.misplaced_by_rows.Tie as tie
-use Prim.Native.Nat.{_<_, _+_, _-_, _/_}
+use Prim.Native.Nat.{_<_, _≤_, _+_, _-_, _/_}
 use mathlib.Core.Path.{_≡_, _∙_, subst}
 use mathlib.Core.Bool.{true}
-use mathlib.Core.List.{List}
+use mathlib.Core.List.{List, map}
 use native.Mathlib.Omega.{arith}
 use borrow.Author.Needs.{needs}
 use denote.Ref.{now}
 use lib.ListN.{length, getD}
 use lib.IntN.{ℤ}
 use Rattle.lattice.specs.Point.{points}
-use Rattle.packed.specs.Packed.{side, placed}
+use Rattle.packed.specs.Packed.{side, placed, unpacked}
 use Rattle.packed.proofs.Tests.{read-back, tells-yes, tells-no}
 use Rattle.order.specs.Row.{RunsTo}
-use Rattle.walk.proofs.Walking.{some, peaked, last-row}
+use Rattle.stretch.specs.Stretch.{StretchOf, Peaked, Crosses}
+use Rattle.stretch.proofs.Following.{between-sides}
+use Rattle.walk.proofs.Walking.{some, peaked, peaked-first, last-row}
 use Rattle.rebuild.specs.Looking.{MisplacedAt, Apart, InOneRow}
 use Rattle.rebuild.proofs.Passing.{passing-then}
 use Rattle.rebuild.proofs.Misplacing.{Looking, looking-none, one-row, looking-more, looking-all}
 
 abbrev Inv-loop : tie.InvT-loop
-Inv-loop outline peak missing apart last crossing₀ lattice₀ begin₀ y₀ crossing lattice begin y = Looking outline missing last y begin lattice
+Inv-loop outline peak missing apart last crossing₀ lattice₀ begin₀ y₀ crossing lattice begin y = Looking outline missing last y begin lattice × (y ≤ last → Crosses outline peak y crossing)
 
 abbrev μ-loop : tie.MeasureT-loop
 μ-loop outline peak missing apart last crossing₀ lattice₀ begin₀ y₀ crossing lattice begin y = last + 1 - y
@@ -35,14 +37,14 @@ shared-slice-read-last : tie.Need-shared-slice-read-last Inv-loop μ-loop
 shared-slice-read-last c = c .before .before .before .pre .1 .inside
 
 start-requires : tie.Need-start-requires Inv-loop μ-loop
-start-requires c κs = search needs
+start-requires c κs = let a = c .before .before .before in peaked-first _ (a .pre .0) _ (a .pre .1)
 
 shared-slice-read-y : tie.Need-shared-slice-read-y Inv-loop μ-loop
 shared-slice-read-y c = let a = c .before .before .before .before .before in some _ (a .pre .0) _ (a .pre .1)
 
 loop-holds : tie.Need-loop-holds Inv-loop μ-loop
 loop-holds c = let a = c .before .before .before .before .before in
-    looking-none _ _ (a .pre .0) _ (a .pre .1)
+    (looking-none _ _ (a .pre .0) _ (a .pre .1), λ _. c .before .start .ensures)
 
 -- the missing points; no row of the hull is past the range
 abbrev missing-of : tie.At-loop Inv-loop μ-loop → List ℤ
@@ -51,17 +53,29 @@ missing-of c = now (c .before .before .before .before .before .before .args .mis
 few : (c : tie.At-loop Inv-loop μ-loop) → let a = c .before .before .before .before .before .before in getD (now (a .args .outline)) (a .args .peak) 0 / side < side
 few c = let a = c .before .before .before .before .before .before in last-row _ (a .pre .0) _ (a .pre .1)
 
-of-next-requires : tie.Need-of-next-requires Inv-loop μ-loop
-of-next-requires c κs = let l = c .before in
+-- row y is one of the hull's
+is-row : (c : tie.In-loop Inv-loop μ-loop) → let a = c .before .before .before .before .before .before .before in Peaked (now (a .args .outline)) (a .args .peak) (c .before .loop .y)
+is-row c = let l = c .before in
     let a = l .before .before .before .before .before .before in
-    peaked _ (a .pre .0) _ (a .pre .1) _ (l .loop .inv .counted .between .from) (c .loop-test .taken)
+    peaked _ (a .pre .0) _ (a .pre .1) _ (l .loop .inv .0 .counted .between .from) (c .loop-test .taken)
+
+across-requires : tie.Need-across-requires Inv-loop μ-loop
+across-requires c κs = search needs
+
+next-requires : tie.Need-next-requires Inv-loop μ-loop
+next-requires c κs = let e = c .before in (is-row e, e .before .loop .inv .1 (e .loop-test .taken))
+
+-- its columns
+stretch : (c : tie.After-next Inv-loop μ-loop) → let l = c .before .before .before in
+    StretchOf (map unpacked (now (l .before .before .before .before .before .before .args .outline))) (l .loop .y) (c .before .across .result)
+stretch c = let e = c .before .before in between-sides _ _ _ (is-row e) _ (e .before .loop .inv .1 (e .loop-test .taken)) _ (c .before .across .ensures)
 
 placed-requires : tie.Need-placed-requires Inv-loop μ-loop
 placed-requires c κs = omega (arith, few (c .before .before .before), c .before .before .loop-test .taken)
 
 end-of-row-requires : tie.Need-end-of-row-requires Inv-loop μ-loop
 end-of-row-requires c κs = let l = c .before .before .before .before in
-    (l .before .before .before .before .before .before .pre .3, l .loop .inv .passing .upto)
+    (l .before .before .before .before .before .before .pre .3, l .loop .inv .0 .passing .upto)
 
 -- the points of the row
 runs : (c : tie.After-end-of-row Inv-loop μ-loop) → let l = c .before .before .before .before .before in
@@ -72,11 +86,11 @@ runs c = let l = c .before .before .before .before .before in
 
 in-row : (c : tie.After-end-of-row Inv-loop μ-loop) → let o = c .before .before .before in
     let l = o .before .before in
-    InOneRow (now (l .before .before .before .before .before .before .args .outline)) (o .of-next .result .stretch) (points (missing-of l)) (l .loop .begin) (c .end-of-row .result)
+    InOneRow (now (l .before .before .before .before .before .before .args .outline)) (o .across .result) (points (missing-of l)) (l .loop .begin) (c .end-of-row .result)
 in-row c = let o = c .before .before .before in
     let l = o .before .before in
     let a = l .before .before .before .before .before .before in
-    one-row _ (missing-of l) (a .pre .0) _ (a .pre .1) _ _ _ (l .loop .inv) (a .pre .3) (a .pre .2) _ (runs c) _ (o .of-next .ensures)
+    one-row _ (missing-of l) (a .pre .0) _ (a .pre .1) _ _ _ (l .loop .inv .0) (a .pre .3) (a .pre .2) _ (runs c) _ (stretch (c .before .before))
 
 -- what is known of corners and missing points
 known : (c : tie.After-end-of-row Inv-loop μ-loop) → let l = c .before .before .before .before .before in
@@ -94,12 +108,12 @@ returns : tie.Need-returns Inv-loop μ-loop
 returns c = let l = c .before .before .before .before .before .before .before .before in
     let f = c .misplaced-in-row .ensures in
     record {
-      first = passing-then (length (points (missing-of l))) (MisplacedAt (now (l .before .before .before .before .before .before .args .outline)) (missing-of l)) _ (l .loop .inv .passing) _ (f .here .0) f;
+      first = passing-then (length (points (missing-of l))) (MisplacedAt (now (l .before .before .before .before .before .before .args .outline)) (missing-of l)) _ (l .loop .inv .0 .passing) _ (f .here .0) f;
       count = λ k. absurd (omega (arith, k, f .here .0));
     }
 
 sub-lattice : tie.Need-sub-lattice Inv-loop μ-loop
-sub-lattice c = c .before .before .before .before .before .before .of-next .ensures .rising
+sub-lattice c = stretch (c .before .before .before .before .before) .rising
 
 cast-lattice : tie.Need-cast-lattice Inv-loop μ-loop
 cast-lattice c = search needs
@@ -107,8 +121,8 @@ cast-lattice c = search needs
 add-lattice : tie.Need-add-lattice Inv-loop μ-loop
 add-lattice c = let o = c .before .before .before .before .before .before in
     let l = o .before .before in
-    let s = o .of-next .ensures in
-    omega (arith, l .loop .inv .counted .small, few l, o .before .loop-test .taken, s .few, s .rising)
+    let s = stretch (c .before .before .before .before .before) in
+    omega (arith, l .loop .inv .0 .counted .small, few l, o .before .loop-test .taken, s .few, s .rising)
 
 add-y : tie.Need-add-y Inv-loop μ-loop
 add-y c = let o = c .before .before .before .before .before .before in omega (arith, few (o .before .before), o .before .loop-test .taken)
@@ -122,13 +136,13 @@ loop-again c = let m = c .before .before in
     let o = e .before .before .before in
     let l = o .before .before in
     let a = l .before .before .before .before .before .before in
-    looking-more _ (missing-of l) (a .pre .0) _ (a .pre .1) _ _ _ (l .loop .inv) (a .pre .3) (a .pre .2) _ (runs e) _ (o .of-next .ensures) (o .before .loop-test .taken)
-    (tells-no (c .before .if1 .left) (m .ends-misplaced .ensures))
+    (looking-more _ (missing-of l) (a .pre .0) _ (a .pre .1) _ _ _ (l .loop .inv .0) (a .pre .3) (a .pre .2) _ (runs e) _ (stretch (e .before .before)) (o .before .loop-test .taken)
+    (tells-no (c .before .if1 .left) (m .ends-misplaced .ensures)), λ u. e .before .before .next .ensures (omega (arith, u)))
 
 returns-2 : tie.Need-returns-2 Inv-loop μ-loop
 returns-2 c = let l = c .before in
     let a = l .before .before .before .before .before .before in
-    looking-all _ (missing-of l) (a .pre .0) _ (a .pre .1) _ _ _ (l .loop .inv) (omega (arith, c .loop-test .left))
+    looking-all _ (missing-of l) (a .pre .0) _ (a .pre .1) _ _ _ (l .loop .inv .0) (omega (arith, c .loop-test .left))
 
 pub misplaced-by-rows-spec : {M : Type 1} → statement M
 misplaced-by-rows-spec =
@@ -142,7 +156,8 @@ misplaced-by-rows-spec =
     start-requires
     shared-slice-read-y
     loop-holds
-    of-next-requires
+    across-requires
+    next-requires
     placed-requires
     end-of-row-requires
     ends-misplaced-requires
