@@ -1,19 +1,18 @@
 -- Both sides of a hull from its first row to its last, and what lies between them. Assumes nothing.
-use mathlib.Core.Path.{_≡_, refl, sym, ap, subst}
+use mathlib.Core.Path.{_≡_, sym, ap, subst}
 use mathlib.Core.List.{List, map}
 use Prim.Native.Nat.{ℕ, suc, _+_, _-_, _*_, _/_, _%_, _≤_, _<_}
-use native.Mathlib.Numerals.{add-one}
 use native.Mathlib.Omega.{arith}
-use lib.ListN.{length, getD}
+use lib.ListN.{getD}
 use Rattle.lattice.proofs.Lists.{either}
 use Rattle.lattice.proofs.Places.{lt-or-le}
 use Rattle.packed.specs.Packed.{side, unpacked}
-use Rattle.stretch.specs.Stretch.{Bounded, Slope, StretchOf, Peaked, Tall, Rises, Falls, RisesFrom, FallsFrom, FirstRises, unit, moved, columnOf, Climbs, Only, Rising, Falling, OnRight, OnLeft, Crosses}
+use Rattle.stretch.specs.Stretch.{Bounded, Slope, StretchOf, Peaked, Tall, Rises, Falls, RisesFrom, FallsFrom, unit, moved, columnOf, Climbs, Only, Rising, Falling, OnRight, OnLeft, Crosses}
 use Rattle.stretch.specs.declared.Stretch.{Stretch}
 use Rattle.stretch.specs.declared.Edge.{Edge}
 use Rattle.stretch.specs.declared.Crossing.{Crossing}
 use Rattle.stretch.proofs.Climbing.{step-small, climbs-on, right-column, left-column}
-use Rattle.stretch.proofs.Sides.{after-below, falling-last, flat, crossed}
+use Rattle.stretch.proofs.Sides.{after-below, flat, crossed}
 
 -- the edge one row further
 abbrev pub stepped : Edge → Edge

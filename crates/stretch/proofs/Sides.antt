@@ -19,7 +19,7 @@ use Rattle.lattice.proofs.Polygon.{InsideEnds}
 use Rattle.packed.specs.Packed.{side, cells, placed, unpacked}
 use Rattle.packed.proofs.RowOrder.{unpacked-before, placed-order, order-placed, placed-grows}
 use Rattle.packed.proofs.KeyLaws.{unpacked-at, unpacked-in}
-use Rattle.stretch.specs.Stretch.{cell, Bounded, LeftOf, Slope, EndsAt, BeginsAt, StretchOf, Peaked, Tall, After, Rises, Falls, RisesFrom, FallsFrom, FirstRises}
+use Rattle.stretch.specs.Stretch.{cell, Bounded, LeftOf, EndsAt, BeginsAt, StretchOf, Peaked, Tall, After, Rises, Falls, RisesFrom, FallsFrom, FirstRises}
 use Rattle.stretch.specs.declared.Stretch.{Stretch}
 use Rattle.stretch.proofs.Counting.{at-foot, at-head}
 use Rattle.stretch.proofs.Rowing.{Between, in-hull, cells-between, between-cells}

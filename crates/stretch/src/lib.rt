@@ -131,16 +131,13 @@ fn falling(corners: &[u32], peak: usize, y: u32, near: usize) -> usize
     i
 }
 
-// The right side in the row after y, if the hull has that row.
+// The right side in the row after y: the same edge, or where it has ended the next one.
 fn next_right(corners: &[u32], peak: usize, y: u32, edge: Edge) -> Edge
-    requires { ⌜ Peaked (now corners) peak y × OnRight (now corners) peak y edge ⌝ }
-    ensures { λ r. ⌜ (y < getD (now (corners .entry)) peak 0 / side → OnRight (now (corners .entry)) peak (y + 1) r) ⌝ }
+    requires { ⌜ Peaked (now corners) peak y × (y < getD (now corners) peak 0 / side) × OnRight (now corners) peak y edge ⌝ }
+    ensures { λ r. ⌜ OnRight (now (corners .entry)) peak (y + 1) r ⌝ }
 {
     if y < edge.last {
         return step(edge);
-    }
-    if corners[peak] / SIDE <= y {
-        return edge;
     }
     let i = rising(corners, peak, y + 1, edge.place);
     climb(i, corners[i], corners[i + 1], y + 1, 0)
@@ -148,17 +145,25 @@ fn next_right(corners: &[u32], peak: usize, y: u32, edge: Edge) -> Edge
 
 // The left side.
 fn next_left(corners: &[u32], peak: usize, y: u32, edge: Edge) -> Edge
-    requires { ⌜ Peaked (now corners) peak y × OnLeft (now corners) peak y edge ⌝ }
-    ensures { λ r. ⌜ (y < getD (now (corners .entry)) peak 0 / side → OnLeft (now (corners .entry)) peak (y + 1) r) ⌝ }
+    requires { ⌜ Peaked (now corners) peak y × (y < getD (now corners) peak 0 / side) × OnLeft (now corners) peak y edge ⌝ }
+    ensures { λ r. ⌜ OnLeft (now (corners .entry)) peak (y + 1) r ⌝ }
 {
     if y < edge.last {
         return step(edge);
     }
-    if corners[peak] / SIDE <= y {
-        return edge;
-    }
     let i = falling(corners, peak, y + 1, edge.place - 1);
     climb(i, corners[i + 1], corners[i], y + 1, MOVED)
+}
+
+// Both sides in the row after a corner's. A function of its own, so that what each row takes is short enough to be inlined.
+fn past_corner(corners: &[u32], peak: usize, y: u32, crossing: Crossing) -> Crossing
+    requires { ⌜ Peaked (now corners) peak y × (y < getD (now corners) peak 0 / side) × Crosses (now corners) peak y crossing ⌝ }
+    ensures { λ r. ⌜ Crosses (now (corners .entry)) peak (y + 1) r ⌝ }
+{
+    Crossing {
+        left: next_left(corners, peak, y, crossing.left),
+        right: next_right(corners, peak, y, crossing.right),
+    }
 }
 
 // Both sides in the row after y, if the hull has that row: all rows together take as many steps as there are rows and corners.
@@ -166,10 +171,18 @@ pub fn next(corners: &[u32], peak: usize, y: u32, crossing: Crossing) -> Crossin
     requires { ⌜ Peaked (now corners) peak y × Crosses (now corners) peak y crossing ⌝ }
     ensures { λ r. ⌜ (y < getD (now (corners .entry)) peak 0 / side → Crosses (now (corners .entry)) peak (y + 1) r) ⌝ }
 {
-    Crossing {
-        left: next_left(corners, peak, y, crossing.left),
-        right: next_right(corners, peak, y, crossing.right),
+    if y < crossing.left.last {
+        if y < crossing.right.last {
+            return Crossing {
+                left: step(crossing.left),
+                right: step(crossing.right),
+            };
+        }
     }
+    if corners[peak] / SIDE <= y {
+        return crossing;
+    }
+    past_corner(corners, peak, y, crossing)
 }
 
 // The column that an edge crosses.

@@ -135,9 +135,11 @@ loop-again c = let m = c .before .before in
     let e = m .before in
     let o = e .before .before .before in
     let l = o .before .before in
-    let a = l .before .before .before .before .before .before in
-    (looking-more _ (missing-of l) (a .pre .0) _ (a .pre .1) _ _ _ (l .loop .inv .0) (a .pre .3) (a .pre .2) _ (runs e) _ (stretch (e .before .before)) (o .before .loop-test .taken)
-    (tells-no (c .before .if1 .left) (m .ends-misplaced .ensures)), λ u. e .before .before .next .ensures (omega (arith, u)))
+    let a = l .before .before .before .before .before .before in (
+      looking-more _ (missing-of l) (a .pre .0) _ (a .pre .1) _ _ _ (l .loop .inv .0) (a .pre .3) (a .pre .2) _ (runs e) _ (stretch (e .before .before)) (o .before .loop-test .taken)
+          (tells-no (c .before .if1 .left) (m .ends-misplaced .ensures)),
+      λ u. e .before .before .next .ensures (omega (arith, u)),
+    )
 
 returns-2 : tie.Need-returns-2 Inv-loop μ-loop
 returns-2 c = let l = c .before in

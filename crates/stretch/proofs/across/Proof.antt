@@ -2,7 +2,7 @@
 use borrow.Author.Needs.{needs}
 use Rattle.stretch.proofs.across.Statement.{statement}
 use Rattle.stretch.proofs.across.Tie as tie
-use mathlib.Core.Path.{subst₂, ap}
+use mathlib.Core.Path.{subst₂}
 use Prim.Native.Nat.{_+_}
 use Rattle.stretch.specs.Stretch.{Bounded}
 

@@ -2,11 +2,11 @@
 use borrow.Author.Needs.{needs}
 use Rattle.stretch.proofs.start.Statement.{statement}
 use Rattle.stretch.proofs.start.Tie as tie
-use Prim.Native.Nat.{suc, _/_, _-_, _<_}
+use Prim.Native.Nat.{suc, _/_, _-_}
 use native.Mathlib.Numerals.{add-one}
 use native.Mathlib.Omega.{arith}
 use denote.Ref.{now}
-use lib.ListN.{length, getD}
+use lib.ListN.{getD}
 use mathlib.Core.Path.{sym, subst}
 use Rattle.packed.specs.Packed.{side}
 use Rattle.stretch.specs.Stretch.{Slope, Tall, Climbs}

@@ -187,9 +187,11 @@ rows-again : tie.Need-rows-again Inv-loop μ-loop Inv-rows μ-rows
 rows-again c = let l = c .before .before in
     let r = l .before .before in
     let o = r .before .before .before .before .before in
-    let p = o .before .before .before .before in
-    (searching-all _ _ (p .before .before .before .pre) _ (p .peak .ensures) _ _ (o .rows .inv .0) (row (r .before .before .before .before)) _ (stretch (r .before .before)) _ (held r)
-    _ (l .loop .inv) (c .if3 .left), λ u. r .before .before .next .ensures (omega (arith, u)))
+    let p = o .before .before .before .before in (
+      searching-all _ _ (p .before .before .before .pre) _ (p .peak .ensures) _ _ (o .rows .inv .0) (row (r .before .before .before .before)) _ (stretch (r .before .before)) _ (held r)
+          _ (l .loop .inv) (c .if3 .left),
+      λ u. r .before .before .next .ensures (omega (arith, u)),
+    )
 
 returns-2 : tie.Need-returns-2 Inv-loop μ-loop Inv-rows μ-rows
 returns-2 c = let p = c .before .before .before .before .before in
