@@ -20,7 +20,7 @@ use Rattle.lattice.proofs.CornerLists.{corner-list-of-some, hull-of-corners}
 use Rattle.lattice.proofs.MissingLists.{missing-list-exists, missing-count-distinct, convex-exactly}
 use Rattle.packed.specs.Packed.{unpacked}
 use Rattle.packed.proofs.KeyLaws.{lists-small}
-use Rattle.walk.specs.Walk.{HullOf, Cornered, CountOf}
+use Rattle.packed.specs.Corners.{HullOf, Cornered, CountOf}
 use Rattle.figures.specs.Quotient.{exact, rounded}
 use Rattle.figures.specs.Figure.{Solidity, Summable, Outlines}
 use Rattle.figures.proofs.Rounding.{Divides, divides, one, one-exactly, quotient-finite}

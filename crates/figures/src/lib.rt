@@ -70,7 +70,7 @@ fn solidity_of(list: &[i32], corners: &[u32]) -> f64
     ensures { λ r. ⌜ Solidity (points (now (list .entry))) r ⌝ }
 {
     let n = list.len() / 2;
-    let lattice = walk::count(corners);
+    let lattice = pick::count(corners);
     quotient(n as i32, lattice)
 }
 

@@ -112,9 +112,11 @@ pub record Running (keys : List ℕ) (begin end : ℕ) : Type 0 where
   pub some : begin < end
   pub upto : end ≤ length keys
   pub same : (j : ℕ) → begin ≤ j → suc j < end → rowAt keys j ≡ rowAt keys (suc j)
+  pub row : rowAt keys begin ≡ rowAt keys (end - 1)
 
 pub running-one : (keys : List ℕ) (begin end : ℕ) → suc begin ≡ end → end ≤ length keys → Running keys begin end
-running-one keys begin end e l = record { some = omega arith; upto = l; same = λ j u v. absurd (omega arith) }
+running-one keys begin end e l = let d : begin ≡ end - 1 = omega (arith, e) in
+    record { some = omega arith; upto = l; same = λ j u v. absurd (omega arith); row = ap (rowAt keys) d }
 
 module _ (keys : List ℕ) (begin end : ℕ) (h : Running keys begin end) where
   pub running-on : end < length keys → rowAt keys (end - 1) ≡ rowAt keys end → Running keys begin (end + 1)
@@ -124,6 +126,7 @@ module _ (keys : List ℕ) (begin end : ℕ) (h : Running keys begin end) where
     same = λ j u v. either (lt-or-le (suc j) end) (λ w. h .same j u w)
         (λ w. let d : j ≡ end - 1 = omega (arith, h .some) in let f : suc j ≡ end = omega arith in
         ap (rowAt keys) d ∙ e ∙ ap (rowAt keys) (sym f));
+    row = let d : end ≡ end + 1 - 1 = omega arith in h .row ∙ e ∙ ap (rowAt keys) d;
   }
 
   pub running-back : 0 < begin → rowAt keys (begin - 1) ≡ rowAt keys begin → Running keys (begin - 1) end
@@ -134,7 +137,22 @@ module _ (keys : List ℕ) (begin end : ℕ) (h : Running keys begin end) where
         (λ w. let d : j ≡ begin - 1 = omega arith in let f : suc j ≡ begin = omega arith in
         ap (rowAt keys) d ∙ e ∙ ap (rowAt keys) (sym f))
         (λ w. h .same j w v);
+    row = e ∙ h .row;
   }
+
+  -- where the points rise, one bound tells the row from the next, and one from the row before
+  module _ (r : Rising keys) where
+    pub row-goes-on : end < length keys → getD keys end 0 < (rowAt keys begin + 1) * side → rowAt keys (end - 1) ≡ rowAt keys end
+    row-goes-on l u = omega (arith, u, h .row, r .rises (end - 1) end (omega (arith, h .some)) l)
+
+    pub row-goes-back : 0 < begin → rowAt keys (end - 1) * side ≤ getD keys (begin - 1) 0 → rowAt keys (begin - 1) ≡ rowAt keys begin
+    row-goes-back l u = omega (arith, u, h .row, r .rises (begin - 1) begin (omega arith) (omega (arith, h .some, h .upto)))
+
+  pub row-ends : (rowAt keys begin + 1) * side ≤ getD keys end 0 → rowAt keys (end - 1) ≡ rowAt keys end → ⊥
+  row-ends u e = omega (arith, u, e, h .row)
+
+  pub row-begins : getD keys (begin - 1) 0 < rowAt keys (end - 1) * side → rowAt keys (begin - 1) ≡ rowAt keys begin → ⊥
+  row-begins u e = omega (arith, u, e, h .row)
 
   pub row-to : (end < length keys → rowAt keys (end - 1) ≡ rowAt keys end → ⊥) → RowTo keys begin end
   row-to n = record {

@@ -38,14 +38,16 @@ fn push(stack: &mut [u32], base: usize, top: usize, k: u32) -> usize
     last + 2
 }
 
-// The end of the row whose points begin, or go on, at a place; and the begin of the row whose points end there.
+// The end of the row whose points begin, or go on, at a place; and the begin of the row whose points end there. The points rise, so that one
+// bound tells a row from the next.
 fn row_end(keys: &[u32], begin: usize) -> usize
-    requires { ⌜ begin < length (now keys) ⌝ }
+    requires { ⌜ Rising (now keys) × (begin < length (now keys)) ⌝ }
     ensures { λ r. ⌜ RowTo (now (keys .entry)) begin r ⌝ }
 {
+    let bound = (keys[begin] / SIDE + 1) * SIDE;
     let mut end = begin + 1;
     while end < keys.len() {
-        if keys[end - 1] / SIDE != keys[end] / SIDE {
+        if bound <= keys[end] {
             return end;
         }
         end += 1;
@@ -54,12 +56,13 @@ fn row_end(keys: &[u32], begin: usize) -> usize
 }
 
 fn row_begin(keys: &[u32], end: usize) -> usize
-    requires { ⌜ (0 < end) × (end ≤ length (now keys)) ⌝ }
+    requires { ⌜ Rising (now keys) × (0 < end) × (end ≤ length (now keys)) ⌝ }
     ensures { λ r. ⌜ RowFrom (now (keys .entry)) r end ⌝ }
 {
+    let bound = keys[end - 1] / SIDE * SIDE;
     let mut begin = end - 1;
     while 0 < begin {
-        if keys[begin - 1] / SIDE != keys[begin] / SIDE {
+        if keys[begin - 1] < bound {
             return begin;
         }
         begin -= 1;

@@ -1,2 +1,3 @@
--- How the code holds a point.
+-- How the code holds a point, and a corner list.
 pub mod Packed
+pub mod Corners

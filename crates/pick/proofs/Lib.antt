@@ -14,3 +14,4 @@ pub mod Triangle
 pub mod Fan
 pub mod Pick
 pub mod Moved
+pub mod Sums

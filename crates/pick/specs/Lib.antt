@@ -1,2 +1,3 @@
--- Pick's formula.
+-- Pick's formula, and what an edge is worth in it.
 pub mod Pick
+pub mod Edge

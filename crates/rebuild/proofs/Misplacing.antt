@@ -25,11 +25,11 @@ use Rattle.order.specs.Row.{RunsTo}
 use Rattle.stretch.specs.Stretch.{cell, Within, Peak, StretchOf}
 use Rattle.stretch.specs.declared.Stretch.{Stretch}
 use Rattle.stretch.proofs.Counting.{is-cell-before, is-before-cell}
-use Rattle.walk.specs.Walk.{HullOf, Cornered}
-use Rattle.walk.proofs.Walking.{nothing, nothing-listed, firstRow, lastRow, in-rows}
+use Rattle.packed.specs.Corners.{Cornered}
+use Rattle.walk.proofs.Walking.{nothing, some, firstRow, lastRow, in-rows}
 use Rattle.walk.proofs.Rows.{rows-rise, from-next}
-use Rattle.walk.proofs.Loops.{Counted, counted-none, counted-more, counted-all}
-use Rattle.rebuild.specs.Looking.{MisplacedAt, InOneRow, EndMisplaced, Sees}
+use Rattle.walk.proofs.Loops.{Between, between-first, between-next}
+use Rattle.rebuild.specs.Looking.{MisplacedAt, InOneRow, EndMisplaced, FirstMisplaced}
 use Rattle.rebuild.proofs.Passing.{Passing, passing-none, passing-stops, passing-ends}
 
 -- ---- a corner
@@ -43,10 +43,11 @@ module _ (outline : List ℕ) (k i : ℕ) where
       h .clear (r .0) (omega (arith, r .1)) (sym (unpacked-injective k (getD outline (r .0) 0) (r .2)))
 
 -- ---- no corners
-pub none-inside : (outline : List ℕ) → length outline ≡ 0 → (missing : List ℤ) → Sees outline missing (record { place = 0; lattice = 0 })
+pub none-inside : (outline : List ℕ) → length outline ≡ 0 → (missing : List ℤ) → FirstMisplaced outline missing 0
 none-inside outline e missing = record {
-  first = record { upto = omega arith; earlier = λ j l. nowhere j l; here = λ l. (l, inl (nothing outline e (point (points missing) 0))) };
-  count = λ l. ([], nothing-listed (HullOf outline) (nothing outline e), refl);
+  upto = omega arith;
+  earlier = λ j l. nowhere j l;
+  here = λ l. (l, inl (nothing outline e (point (points missing) 0)));
 }
 
 -- ---- a point of a row whose stretch is known
@@ -180,20 +181,20 @@ abbrev Ahead : List ℕ → ℕ → Point → Type 0
 Ahead outline y p = (p .y <ℤ placed (firstRow outline)) ⊎ (placed y ≤ℤ p .y)
 
 -- before row y no point is misplaced, up to place `begin`, and the point there, if there is one, is in no row before y of the hull
-pub record Looking (outline : List ℕ) (missing : List ℤ) (last y begin lattice : ℕ) : Type 0 where
-  pub counted : Counted outline last y lattice
+pub record Looking (outline : List ℕ) (missing : List ℤ) (last y begin : ℕ) : Type 0 where
+  pub between : Between outline last y
   pub passing : Passing (length (points missing)) (MisplacedAt outline missing) begin
   pub ahead : begin < length (points missing) → Ahead outline y (point (points missing) begin)
 
 module _ (outline : List ℕ) (missing : List ℤ) (h : Cornered outline) (peak : ℕ) (g : Peak outline peak) where
-  pub looking-none : Looking outline missing (lastRow outline peak) (firstRow outline) 0 0
+  pub looking-none : Looking outline missing (lastRow outline peak) (firstRow outline) 0
   looking-none = record {
-    counted = counted-none outline h peak g;
+    between = between-first outline peak (some outline h peak g) g;
     passing = passing-none (length (points missing)) (MisplacedAt outline missing);
     ahead = λ l. either (le-or-lt (placed (firstRow outline)) ((point (points missing) 0) .y)) (λ k. inr k) (λ k. inl k);
   }
 
-  module _ (y begin lattice : ℕ) (d : Looking outline missing (lastRow outline peak) y begin lattice) where
+  module _ (y begin : ℕ) (d : Looking outline missing (lastRow outline peak) y begin) where
     module _ (order : Pairs Before (points missing)) (range : All InRange (points missing)) (end : ℕ) (r : RunsTo (points missing) (placed y) begin end)
         (s : Stretch) (t : StretchOf (map unpacked outline) y s) where
       pub one-row : InOneRow outline s (points missing) begin end
@@ -224,21 +225,19 @@ module _ (outline : List ℕ) (missing : List ℤ) (h : Cornered outline) (peak 
           in-order u = subst (λ z. z ≤ℤ p .y) (r .within (end - 1) (omega arith) (omega arith))
               (rows-rise (point (points missing) (end - 1)) p (pairs-place Before (points missing) order (end - 1) end (omega arith) l))
 
-      pub looking-more : y ≤ lastRow outline peak → (EndMisplaced outline missing begin end → ⊥) → Looking outline missing (lastRow outline peak) (y + 1) end (lattice + (s .to - s .from))
+      pub looking-more : y ≤ lastRow outline peak → (EndMisplaced outline missing begin end → ⊥) → Looking outline missing (lastRow outline peak) (y + 1) end
       looking-more u n = record {
-        counted = counted-more outline h peak g y lattice (d .counted) u s t;
+        between = between-next outline peak y (d .between) u;
         passing = row-passed outline s (points missing) begin end one-row order (λ k f. n (record { some = k; which = f })) (d .passing);
         ahead = later;
       }
 
     -- past the last row
-    pub looking-all : lastRow outline peak < y → Sees outline missing (record { place = begin; lattice = lattice })
-    looking-all u = record {
-      first = either (lt-or-le begin (length (points missing)))
-          (λ l. passing-stops (length (points missing)) (MisplacedAt outline missing) begin (d .passing) (l, inl (λ i. outside l i)))
-          (λ l. passing-ends (length (points missing)) (MisplacedAt outline missing) begin (d .passing) l);
-      count = λ l. counted-all outline h peak g y lattice (d .counted) u;
-    }
+    pub looking-all : lastRow outline peak < y → FirstMisplaced outline missing begin
+    looking-all u =
+        either (lt-or-le begin (length (points missing)))
+        (λ l. passing-stops (length (points missing)) (MisplacedAt outline missing) begin (d .passing) (l, inl (λ i. outside l i)))
+        (λ l. passing-ends (length (points missing)) (MisplacedAt outline missing) begin (d .passing) l)
       where
         outside : begin < length (points missing) → InHull (Of (map unpacked outline)) (point (points missing) begin) → ⊥
         outside l i =

@@ -13,7 +13,7 @@ use Rattle.lattice.proofs.Tables.{whole-first, whole-never}
 use Rattle.packed.specs.Packed.{unpacked}
 use Rattle.rebuild.specs.declared.Rebuilt.{Rebuilt}
 use Rattle.rebuild.specs.Rebuild.{inputRows}
-use Rattle.rebuild.specs.Looking.{Looks, LooksOn, FirstBelow}
+use Rattle.rebuild.specs.Looking.{Looks, FirstBelow}
 use Rattle.rebuild.proofs.Passing.{first-here, never-below}
 
 -- a number and a place, and no points
@@ -26,11 +26,6 @@ looks g = record { gives = g; uncounted = refl }
 -- the same of an equal answer
 pub looks-as : {t : Table} {a b : Rebuilt} → a ≡ b → Looks t b → Looks t a
 looks-as {t} e h = subst (Looks t) (sym e) h
-
--- a refusal tells nothing of the lattice points
-pub looks-on : {outline : List ℕ} {missing : List ℤ} {found : Rebuilt} (number place : ℕ) {lattice : ℕ} → 0 < number → found ≡ answer number place
-    → Looks (rebuildRows (map unpacked outline) (points missing) accepted) (answer number place) → LooksOn outline missing (record { found = found; lattice = lattice })
-looks-on number place some e h = record { rows = looks-as e h; count = λ z. absurd (omega (arith, some, z, ap (λ r. r .number) e)) }
 
 -- ---- both lists
 module _ (corners missing : List ℤ) where

@@ -13,10 +13,8 @@ use Rattle.packed.specs.Packed.{side, packed, unpacked}
 use Rattle.order.specs.Keys.{Below}
 use Rattle.stretch.specs.Stretch.{StretchOf}
 use Rattle.stretch.specs.declared.Stretch.{Stretch}
-use Rattle.walk.specs.Walk.{HullOf, Cornered, CountOf}
+use Rattle.packed.specs.Corners.{Cornered}
 use Rattle.rebuild.specs.declared.Rebuilt.{Rebuilt}
-use Rattle.rebuild.specs.declared.Seen.{Seen}
-use Rattle.rebuild.specs.declared.Looked.{Looked}
 use Rattle.rebuild.specs.Rebuild.{resultRows, Outcome, pointRows}
 
 -- lists that pass refusals 1 to 3
@@ -92,16 +90,6 @@ pub record InOneRow (outline : List ℕ) (s : Stretch) (l : List Point) (begin e
 pub record EndMisplaced (outline : List ℕ) (missing : List ℤ) (begin end : ℕ) : Type 0 where
   pub some : begin < end
   pub which : MisplacedAt outline missing begin ⊎ MisplacedAt outline missing (end - 1)
-
--- the first misplaced point; if there is none, also how many lattice points the hull has
-pub record Sees (outline : List ℕ) (missing : List ℤ) (seen : Seen) : Type 0 where
-  pub first : FirstMisplaced outline missing (seen .place)
-  pub count : length (points missing) ≤ seen .place → CountOf (HullOf outline) (seen .lattice)
-
--- what rows 8 to 10 of the table give, and that number
-pub record LooksOn (outline : List ℕ) (missing : List ℤ) (looked : Looked) : Type 0 where
-  pub rows : Looks (rebuildRows (map unpacked outline) (points missing) accepted) (looked .found)
-  pub count : looked .found .number ≡ 0 → CountOf (HullOf outline) (looked .lattice)
 
 -- the points of s stand at the front of an array, packed, in the order of s
 pub record Outlines (s : List Point) (outline : List ℕ) : Type 0 where

@@ -6,13 +6,14 @@ ghost use Prim.Native.Nat.{_<_, _≤_, _/_};
 ghost use lib.ListN.{length};
 ghost use Rattle.lattice.specs.Point.{InRange, points, point, In, All, Pairs, Before};
 ghost use Rattle.lattice.specs.Hull.{CornerList};
-ghost use Rattle.lattice.specs.Refusal.{accepted, Misplaced};
+ghost use Rattle.lattice.specs.Refusal.{accepted, Misplaced, rebuildRows};
 ghost use Rattle.packed.specs.Packed.{Tells, side, cells, packed as packedOf, unpacked};
 ghost use Rattle.order.specs.Keys.{Below};
 ghost use Rattle.stretch.specs.Stretch.{StretchOf, Peak};
-ghost use Rattle.walk.specs.Walk.{HullOf, Cornered, Walked, CountOf};
+ghost use Rattle.packed.specs.Corners.{Cornered};
+ghost use Rattle.walk.specs.Walk.{Walked};
 ghost use Rattle.rebuild.specs.Rebuild.{inputRows, RebuildPromise};
-ghost use Rattle.rebuild.specs.Looking.{Taken, Behind, Resulting, Looks, FirstFrom, FirstOutside, FirstStray, MisplacedAt, Apart, Sought, InOneRow, EndMisplaced, Sees, LooksOn, Outlines, Follows};
+ghost use Rattle.rebuild.specs.Looking.{Taken, Behind, Resulting, Looks, FirstFrom, FirstOutside, FirstStray, FirstMisplaced, MisplacedAt, Apart, Sought, InOneRow, EndMisplaced, Outlines, Follows};
 use stretch::Stretch;
 
 // What Rebuild answers: number and place, 0 and 0 if accepted, and how many points there are.
@@ -21,18 +22,6 @@ pub struct Rebuilt {
     pub number: u32,
     pub place: usize,
     pub points: usize,
-}
-
-// The first misplaced point, and how many lattice points the hull has if there is none.
-struct Seen {
-    place: usize,
-    lattice: u64,
-}
-
-// What refusals 8 to 10 say, and how many lattice points the hull has if they decline nothing.
-struct Looked {
-    found: Rebuilt,
-    lattice: u64,
 }
 
 const SIDE: u32 = 16384;
@@ -335,48 +324,41 @@ fn misplaced_in_row(
     i
 }
 
-// Row by row through the hull: the first missing point that is misplaced, how many there are if none is; then also the hull's lattice points.
-// A point in no row of the hull is the one at which the rows' points end.
-fn misplaced_by_rows(outline: &[u32], peak: usize, missing: &[i32]) -> Seen
+// Row by row through the hull, as far as there are missing points: the first that is misplaced, how many there are if none is. A point in no row
+// of the hull is the one at which the rows' points end.
+fn misplaced_by_rows(outline: &[u32], peak: usize, missing: &[i32]) -> usize
     requires { ⌜ Cornered (now outline) × Peak (now outline) peak × All InRange (points (now missing)) × Pairs Before (points (now missing)) ⌝ }
-    ensures { λ r. ⌜ Sees (now (outline .entry)) (now (missing .entry)) r ⌝ }
+    ensures { λ r. ⌜ FirstMisplaced (now (outline .entry)) (now (missing .entry)) r ⌝ }
 {
+    let n = missing.len() / 2;
     let apart = all_apart(outline, missing);
     let last = outline[peak] / SIDE;
     let mut crossing = stretch::start(outline, peak);
-    let mut lattice: u64 = 0;
     let mut begin: usize = 0;
     let mut y = outline[0] / SIDE;
     while y <= last {
+        if begin == n {
+            return n;
+        }
         let stretch = stretch::across(crossing);
         crossing = stretch::next(outline, peak, y, crossing);
         let end = walk::end_of_row(missing, packed::placed(y), begin);
         if ends_misplaced(outline, stretch, missing, apart, begin, end) {
-            return Seen {
-                place: misplaced_in_row(outline, stretch, missing, apart, begin, end),
-                lattice: 0,
-            };
+            return misplaced_in_row(outline, stretch, missing, apart, begin, end);
         }
-        lattice += (stretch.to - stretch.from) as u64;
         begin = end;
         y += 1;
     }
-    Seen {
-        place: begin,
-        lattice,
-    }
+    begin
 }
 
-// The first missing point that is outside the corners' hull or is a corner; how many there are if none is, and the hull's lattice points.
-fn first_misplaced(outline: &[u32], missing: &[i32]) -> Seen
+// The first missing point that is outside the corners' hull or is a corner; how many there are if none is.
+fn first_misplaced(outline: &[u32], missing: &[i32]) -> usize
     requires { ⌜ Cornered (now outline) × All InRange (points (now missing)) × Pairs Before (points (now missing)) ⌝ }
-    ensures { λ r. ⌜ Sees (now (outline .entry)) (now (missing .entry)) r ⌝ }
+    ensures { λ r. ⌜ FirstMisplaced (now (outline .entry)) (now (missing .entry)) r ⌝ }
 {
     if outline.len() == 0 {
-        return Seen {
-            place: 0,
-            lattice: 0,
-        };
+        return 0;
     }
     misplaced_by_rows(outline, walk::peak(outline), missing)
 }
@@ -421,48 +403,35 @@ fn refusal_of_lists(corners: &[i32], missing: &[i32]) -> Rebuilt
 }
 
 // Refusals 8, 9 and 10 of points in range; number 0 if there is none.
-fn refusal_of_points(outline: &[u32], missing: &[i32]) -> Looked
+fn refusal_of_points(outline: &[u32], missing: &[i32]) -> Rebuilt
     requires { ⌜ Below (now outline) × All InRange (points (now missing)) ⌝ }
-    ensures { λ r. ⌜ LooksOn (now (outline .entry)) (now (missing .entry)) r ⌝ }
+    ensures { λ r. ⌜ Looks (rebuildRows (map unpacked (now (outline .entry))) (points (now (missing .entry))) accepted) r ⌝ }
 {
     let n = missing.len() / 2;
     if !is_corner_list(outline) {
-        return Looked {
-            found: declined(8, 0),
-            lattice: 0,
-        };
+        return declined(8, 0);
     }
     let stray = first_stray(missing);
     if stray < n {
-        return Looked {
-            found: declined(9, stray),
-            lattice: 0,
-        };
+        return declined(9, stray);
     }
-    let seen = first_misplaced(outline, missing);
-    let place = seen.place;
+    let place = first_misplaced(outline, missing);
     if place < n {
-        return Looked {
-            found: declined(10, place),
-            lattice: 0,
-        };
+        return declined(10, place);
     }
-    Looked {
-        found: Rebuilt {
-            number: 0,
-            place: 0,
-            points: 0,
-        },
-        lattice: seen.lattice,
+    Rebuilt {
+        number: 0,
+        place: 0,
+        points: 0,
     }
 }
 
 // Refusals 11 and 12, or the points that result at the front of the room.
-fn result(outline: &[u32], missing: &[i32], lattice: u64, room: &mut [i32]) -> Rebuilt
-    requires { ⌜ Walked (now outline) (now missing) × CountOf (HullOf (now outline)) lattice ⌝ }
+fn result(outline: &[u32], missing: &[i32], room: &mut [i32]) -> Rebuilt
+    requires { ⌜ Walked (now outline) (now missing) ⌝ }
     ensures { λ r. ⌜ Resulting (now (outline .entry)) (now (missing .entry)) (now (room .entry)) r (now (room .exit)) ⌝ }
 {
-    let count = lattice - (missing.len() / 2) as u64;
+    let count = pick::count(outline) - (missing.len() / 2) as u64;
     if count > packed::MOST as u64 {
         return declined(11, 0);
     }
@@ -484,13 +453,12 @@ fn rebuild_in(corners: &[i32], missing: &[i32], room: &mut [i32], outline: &mut 
 {
     pack(corners, outline);
     let n = corners.len() / 2;
-    let looked = refusal_of_points(&outline[..n], missing);
-    let found = looked.found;
+    let found = refusal_of_points(&outline[..n], missing);
     let number = found.number;
     if number != 0 {
         return found;
     }
-    result(&outline[..n], missing, looked.lattice, room)
+    result(&outline[..n], missing, room)
 }
 
 // Rebuild with as much working space as the corners ask for: what a call zeroes is what it costs a small grain.

@@ -16,7 +16,8 @@ use Rattle.lattice.proofs.Rooms.{holding-length, holding-points}
 use Rattle.lattice.proofs.SameMembers.{lists-same}
 use Rattle.packed.specs.Packed.{cells, packed, unpacked}
 use Rattle.packed.proofs.RowOrder.{packed-below, unpacked-packed, unpacked-before}
-use Rattle.walk.specs.Walk.{HullOf, Cornered, Walked, Lacking, CountOf, FirstOf, Takes, Puts}
+use Rattle.packed.specs.Corners.{HullOf, Cornered, CountOf}
+use Rattle.walk.specs.Walk.{Walked, Lacking, FirstOf, Takes, Puts}
 use Rattle.walk.proofs.Walking.{hull-range}
 use Rattle.report.specs.Grain.{Grain, MissingOf}
 use Rattle.report.specs.Report.{no, yes, verdictOf, Judges}

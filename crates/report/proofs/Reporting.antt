@@ -21,7 +21,8 @@ use Rattle.hull.specs.declared.Hulled.{Hulled}
 use Rattle.hull.specs.Hull.{hullRows, HullResult}
 use Rattle.hull.specs.Found.{HullKeys, FindsHull}
 use Rattle.hull.proofs.Hulling.{hull-done, accepted-keys}
-use Rattle.walk.specs.Walk.{CountOf, FirstOf, Takes, Puts}
+use Rattle.packed.specs.Corners.{CountOf}
+use Rattle.walk.specs.Walk.{FirstOf, Takes, Puts}
 use Rattle.report.specs.Grain.{Grain, MissingOf, reported, JudgedBy, ReportedBy}
 use Rattle.report.proofs.Missing.{judges-no, judges-yes}
 use Rattle.report.specs.declared.Judged.{Judged}

@@ -8,7 +8,8 @@ ghost use Rattle.lattice.specs.Room.{holding};
 ghost use Rattle.packed.specs.Packed.{unpacked};
 ghost use Rattle.order.specs.Keys.{Fits};
 ghost use Rattle.hull.specs.Found.{HullSpace, Shown};
-ghost use Rattle.walk.specs.Walk.{CountOf, FirstOf, Takes, Puts};
+ghost use Rattle.packed.specs.Corners.{CountOf};
+ghost use Rattle.walk.specs.Walk.{FirstOf, Takes, Puts};
 ghost use Rattle.report.specs.Report.{neither, VerdictPromise, ReportPromise};
 ghost use Rattle.report.specs.Grain.{Grain, MissingOf, JudgedBy, ReportedBy};
 
@@ -134,7 +135,7 @@ fn count_missing(keys: &[u32], stack: &[u32]) -> u64
     requires { ⌜ Grain (now keys) (now stack) ⌝ }
     ensures { λ r. ⌜ CountOf (MissingOf (now (keys .entry))) r ⌝ }
 {
-    walk::count(stack) - keys.len() as u64
+    pick::count(stack) - keys.len() as u64
 }
 
 // Points and corners of a grain in their rooms, and the first missing point.

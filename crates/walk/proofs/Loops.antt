@@ -1,4 +1,4 @@
--- What the loops over the rows of a hull have done before row y: counted, written, looked for. Assumes nothing.
+-- What the loops over the rows of a hull have done before row y: written, looked for. Assumes nothing.
 use mathlib.Core.Path.{_≡_, refl, sym, _∙_, ap, subst}
 use mathlib.Core.List.{List, [], _++_, map}
 use Prim.Native.Nat.{ℕ, _+_, _-_, _*_, _/_, _%_, _≤_, _<_}
@@ -16,7 +16,8 @@ use Rattle.packed.proofs.RowOrder.{placed-injective, placed-order}
 use Rattle.order.specs.Row.{Holds, LeadsTo}
 use Rattle.stretch.specs.Stretch.{cell, StretchOf, Peak}
 use Rattle.stretch.specs.declared.Stretch.{Stretch}
-use Rattle.walk.specs.Walk.{HullOf, Cornered, Walked, Lacking, CountOf, FirstOf, Takes, Puts, Gap}
+use Rattle.packed.specs.Corners.{HullOf, Cornered}
+use Rattle.walk.specs.Walk.{Walked, Lacking, FirstOf, Takes, Puts, Gap}
 use Rattle.walk.proofs.Rows.{at-cell, part, row-next, holds-leads}
 use Rattle.walk.proofs.Lending.{rest, puts-length, puts-used, rest-takes, puts-then}
 use Rattle.walk.proofs.Gaps.{Held, Passed, passed-none, passed-held, held-in, gap-here, columns-listed}
@@ -27,26 +28,18 @@ pub record Between (corners : List ℕ) (last y : ℕ) : Type 0 where
   pub from : getD corners 0 0 / side ≤ y
   pub upto : y ≤ last + 1
 
--- a hull without any list
-pub walked-alone : (corners : List ℕ) → Cornered corners → Walked corners []
-walked-alone corners h = record { cornered = h; order = tt; inside = tt }
+module _ (corners : List ℕ) (peak : ℕ) where
+  pub between-first : 0 < length corners → Peak corners peak → Between corners (lastRow corners peak) (firstRow corners)
+  between-first l g = record { from = omega arith; upto = omega (arith, g .greatest 0 l) }
 
-none-held : (y : ℕ) → Holds [] (placed y) 0 0
-none-held y = record {
-  rising = omega arith;
-  inside = omega arith;
-  before = λ i u. nowhere i u;
-  within = λ i u v. nowhere i v;
-  after = λ i u v. nowhere i v;
-}
+  -- one row more
+  pub between-next : (y : ℕ) → Between corners (lastRow corners peak) y → y ≤ lastRow corners peak → Between corners (lastRow corners peak) (y + 1)
+  between-next y b u = record { from = omega (arith, b .from); upto = omega arith }
 
 -- ---- what is lacking, row by row
 module _ (corners : List ℕ) (list : List ℤ) (w : Walked corners list) (peak : ℕ) (g : Peak corners peak) where
   rows : (p : Point) → Lacking corners list p → (placed (firstRow corners) ≤ℤ p .y) × (p .y <ℤ placed ((lastRow corners peak) + 1))
   rows p l = in-rows corners (w .cornered) peak g p (l .within)
-
-  pub between-first : Between corners (lastRow corners peak) (firstRow corners)
-  between-first = record { from = omega arith; upto = omega (arith, g .greatest 0 (some corners (w .cornered) peak g)) }
 
   pub none-yet : Lists (Upto (Lacking corners list) (firstRow corners)) []
   none-yet = upto-none (Lacking corners list) (firstRow corners) (λ p l. rows p l .0)
@@ -59,50 +52,6 @@ module _ (corners : List ℕ) (list : List ℤ) (w : Walked corners list) (peak 
 
     pub all-passed : (lastRow corners peak) < y → (l : List Point) → Lists (Upto (Lacking corners list) y) l → Lists (Lacking corners list) l
     all-passed u = upto-all (Lacking corners list) y (before-past u)
-
-    -- one row more
-    pub between-next : y ≤ (lastRow corners peak) → Between corners (lastRow corners peak) (y + 1)
-    between-next u = record { from = omega (arith, b .from); upto = omega arith }
-
--- ---- counted
-pub record Counted (corners : List ℕ) (last y total : ℕ) : Type 0 where
-  pub between : Between corners last y
-  pub count : CountOf (Upto (Lacking corners []) y) total
-  pub small : total ≤ side * y
-
-module _ (corners : List ℕ) (h : Cornered corners) (peak : ℕ) (g : Peak corners peak) where
-  alone : Walked corners []
-  alone = walked-alone corners h
-
-  pub counted-none : Counted corners (lastRow corners peak) (firstRow corners) 0
-  counted-none = record {
-    between = between-first corners [] alone peak g;
-    count = ([], none-yet corners [] alone peak g, refl);
-    small = omega arith;
-  }
-
-  module _ (y total : ℕ) (d : Counted corners (lastRow corners peak) y total) where
-    pub counted-more : y ≤ (lastRow corners peak) → (s : Stretch) → StretchOf (map unpacked corners) y s → Counted corners (lastRow corners peak) (y + 1) (total + (s .to - s .from))
-    counted-more u s f =
-        let r = columns-listed s y (f .rising) in
-        record {
-          between = between-next corners [] alone peak g y (d .between) u;
-          count = (
-            d .count .0 ++ r .0,
-            upto-more (Lacking corners []) y (Gap [] s y) (gap-lacking corners [] alone y 0 0 s f (none-held y)) (lacking-gap corners [] alone y 0 0 s f (none-held y))
-                (d .count .0) (r .0) (d .count .1) (r .1),
-            omega (arith, d .count .2, r .2, length-append (d .count .0) (r .0)),
-          );
-          small = omega (arith, d .small, f .few);
-        }
-
-    pub counted-all : (lastRow corners peak) < y → CountOf (HullOf corners) total
-    counted-all u = (
-      d .count .0,
-      lists-same (Lacking corners []) (HullOf corners) (λ p l. l .within) (λ p i. record { within = i; kept = λ m. m }) (d .count .0)
-          (all-passed corners [] alone peak g y (d .between) u (d .count .0) (d .count .1)),
-      d .count .2,
-    )
 
 -- ---- written
 pub record Written (corners : List ℕ) (list : List ℤ) (last y begin used : ℕ) (room₀ room : List ℤ) : Type 0 where
@@ -121,7 +70,7 @@ module _ (corners : List ℕ) (list : List ℤ) (w : Walked corners list) (peak 
 
   pub written-none : (room : List ℤ) → Written corners list (lastRow corners peak) (firstRow corners) 0 0 room room
   written-none room = record {
-    between = between-first corners list w peak g;
+    between = between-first corners peak (some corners (w .cornered) peak g) g;
     leads = leads-none;
     puts = ([], none-yet corners list w peak g, refl, refl);
   }
@@ -155,7 +104,7 @@ module _ (corners : List ℕ) (list : List ℤ) (w : Walked corners list) (peak 
       pub written-more : (r : ℕ) (back : List ℤ) → Puts (Gap (part list begin end) s y) (rest room (2 * used)) r back
           → Written corners list (lastRow corners peak) (y + 1) end (used + r) room₀ (putMid (2 * used) (length room - 2 * used) room back)
       written-more r back p = record {
-        between = between-next corners list w peak g y (d .between) u;
+        between = between-next corners peak y (d .between) u;
         leads = holds-leads (points list) y begin end k;
         puts = puts-then (Upto (Lacking corners list) y) (Lacking corners list) upto-lacking room₀ t used room (d .puts)
             (Gap (part list begin end) s y) (Upto (Lacking corners list) (y + 1)) more r back p;
@@ -181,7 +130,7 @@ pub record Searching (row : List ℤ) (s : Stretch) (y x : ℕ) : Type 0 where
 module _ (corners : List ℕ) (list : List ℤ) (w : Walked corners list) (peak : ℕ) (g : Peak corners peak) where
   pub searched-none : Searched corners list (lastRow corners peak) (firstRow corners) 0
   searched-none = record {
-    between = between-first corners list w peak g;
+    between = between-first corners peak (some corners (w .cornered) peak g) g;
     leads = leads-none corners list w peak g;
     none = none-yet corners list w peak g .every;
   }
@@ -245,7 +194,7 @@ module _ (corners : List ℕ) (list : List ℤ) (w : Walked corners list) (peak 
 
         pub searching-all : s .to ≤ x → Searched corners list (lastRow corners peak) (y + 1) end
         searching-all l = record {
-          between = between-next corners list w peak g y (d .between) u;
+          between = between-next corners peak y (d .between) u;
           leads = holds-leads (points list) y begin end k;
           none = λ p a. either (row-next y (p .y) (a .1)) (λ b. d .none p (a .0, b))
               (λ b. let q = lacking-gap corners list w y begin end s f k p (a .0) b in

@@ -25,7 +25,8 @@ use Rattle.packed.proofs.RowOrder.{unpacked-in-range, unpacked-before, placed-o
 use Rattle.order.specs.Row.{Holds}
 use Rattle.stretch.specs.Stretch.{StretchOf, Peak, Peaked}
 use Rattle.stretch.specs.declared.Stretch.{Stretch}
-use Rattle.walk.specs.Walk.{HullOf, Cornered, Walked, Lacking, RowPoints, Gap}
+use Rattle.packed.specs.Corners.{HullOf, Cornered}
+use Rattle.walk.specs.Walk.{Walked, Lacking, RowPoints, Gap}
 use Rattle.walk.proofs.Rows.{part, part-in, in-part, in-cell, row-next, next-row, row-points}
 
 -- ---- the points that have P in rows before y

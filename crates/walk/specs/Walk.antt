@@ -1,4 +1,4 @@
--- The lattice points of a hull that a list in row order lacks: counted, the first of them, all of them. Report lacks the points of the
+-- The lattice points of a hull that a list in row order lacks: the first of them, all of them. Report lacks the points of the
 -- grain, Rebuild the missing points. Assumes nothing.
 use mathlib.Core.Path.{_≡_}
 use mathlib.Core.Logic.{_⊎_}
@@ -7,20 +7,12 @@ use Prim.Native.Nat.{ℕ, _+_, _*_, _-_, _≤_, _<_}
 use lib.ListN.{length, getD}
 use lib.IntN.{ℤ}
 use Rattle.lattice.specs.Point.{Point, points, point, In, All, Pairs, Before, Lists}
-use Rattle.lattice.specs.Hull.{InHull, Of, CornerList, Kept}
+use Rattle.lattice.specs.Hull.{Kept}
 use Rattle.lattice.specs.Room.{holding}
 use Rattle.packed.specs.Packed.{side, cells, moved, unpacked}
+use Rattle.packed.specs.Corners.{HullOf, Cornered}
 use Rattle.stretch.specs.Stretch.{cell, Within}
 use Rattle.stretch.specs.declared.Stretch.{Stretch}
-
--- p is in the hull of packed corners
-abbrev pub HullOf : List ℕ → Point → Type 0
-HullOf corners = InHull (Of (map unpacked corners))
-
--- a corner list of packed points
-pub record Cornered (corners : List ℕ) : Type 0 where
-  pub below : (i : ℕ) → i < length corners → getD corners i 0 < cells
-  pub listed : CornerList (map unpacked corners) (map unpacked corners)
 
 -- a corner list, and points of its hull in row order
 pub record Walked (corners : List ℕ) (list : List ℤ) : Type 0 where
@@ -31,10 +23,6 @@ pub record Walked (corners : List ℕ) (list : List ℤ) : Type 0 where
 -- the lattice points of the hull that the list lacks
 abbrev pub Lacking : List ℕ → List ℤ → Point → Type 0
 Lacking corners list = Kept (map unpacked corners) (points list)
-
--- as many points have P
-abbrev pub CountOf : (Point → Type 0) → ℕ → Type 0
-CountOf P r = (l : List Point) × Lists P l × (r ≡ length l)
 
 -- the least packed point that has P; `cells` if none has it
 pub record FirstOf (P : Point → Type 0) (r : ℕ) : Type 0 where

@@ -1,4 +1,4 @@
-// The lattice points of a hull that a list in row order lacks, row by row: how many the hull has, the first that is lacking, all of them.
+// The lattice points of a hull that a list in row order lacks, row by row: the first of them, all of them.
 ghost use mathlib.Core.Path.{_≡_};
 ghost use Prim.Native.Nat.{_<_, _≤_, _-_, _*_};
 ghost use lib.ListN.{length};
@@ -6,7 +6,8 @@ ghost use Rattle.lattice.specs.Point.{InRange, points, point, All, Pairs, Befor
 ghost use Rattle.packed.specs.Packed.{Tells, side};
 ghost use Rattle.order.specs.Row.{RunsTo};
 ghost use Rattle.stretch.specs.Stretch.{Peak};
-ghost use Rattle.walk.specs.Walk.{HullOf, Cornered, Walked, Lacking, CountOf, FirstOf, Takes, Puts, Later, columnAt, RowPoints, Gap, Across, InRow, Neighbour};
+ghost use Rattle.packed.specs.Corners.{HullOf};
+ghost use Rattle.walk.specs.Walk.{Walked, Lacking, FirstOf, Takes, Puts, Later, columnAt, RowPoints, Gap, Across, InRow, Neighbour};
 use stretch::Stretch;
 
 const SIDE: u32 = 16384;
@@ -85,28 +86,6 @@ fn holds(row: &[i32], i: usize, x: i32) -> bool
         return false;
     }
     row[2 * i] == x
-}
-
-// How many lattice points the hull has.
-pub fn count(corners: &[u32]) -> u64
-    requires { ⌜ Cornered (now corners) ⌝ }
-    ensures { λ r. ⌜ CountOf (HullOf (now (corners .entry))) r ⌝ }
-{
-    if corners.len() == 0 {
-        return 0;
-    }
-    let peak = peak(corners);
-    let last_row = corners[peak] / SIDE;
-    let mut crossing = stretch::start(corners, peak);
-    let mut total: u64 = 0;
-    let mut y = corners[0] / SIDE;
-    while y <= last_row {
-        let stretch = stretch::across(crossing);
-        crossing = stretch::next(corners, peak, y, crossing);
-        total += (stretch.to - stretch.from) as u64;
-        y += 1;
-    }
-    total
 }
 
 // The first lattice point of the hull that the list lacks: rows and columns are gone through, and both are left as soon as there is one.

@@ -141,6 +141,7 @@ pub const KINDS: &[Kind] = &[
     rebuild("rebuild-wide", 10, rebuilds::wide),
     rebuild("rebuild-many-corners", 8, rebuilds::many_corners),
     rebuild("rebuild-count", 5, rebuilds::count),
+    rebuild("rebuild-missing-count", 8, rebuilds::missing_count),
     rebuild("rebuild-long", 2, rebuilds::long),
     rebuild("rebuild-corners", 60, rebuild_faults::corners),
     rebuild("rebuild-stars", 15, rebuild_faults::stars),

@@ -3,6 +3,7 @@
 
 use super::rebuild_faults::{spoil_corners, spoil_missing};
 use super::rooms::{often_enough, plausible_room, room};
+use super::traps::telling_count;
 use super::{grains, outlines, round};
 use crate::form::Request;
 use crate::point::{numbers_of, point, Point, MOST_POINTS};
@@ -72,6 +73,25 @@ pub fn slivers(random: &mut Random) -> Request {
 pub fn gaps(random: &mut Random) -> Request {
     let grain = outlines::gaps(random);
     let mut parts = parts_of(grains::moved(random, grain));
+    if random.chance(1, 3) {
+        spoil_missing(random, &mut parts);
+    }
+    let length = often_enough(random, parts.points.len());
+    ask(random, &parts.corners, &parts.missing, length)
+}
+
+/// A rectangle with as many missing points as may tell something, with a corner or
+/// another wrong one among them at times.
+pub fn missing_count(random: &mut Random) -> Request {
+    let count = telling_count(random);
+    let width = random.pick(&[1, 3, 20, 64]);
+    let height = (count + random.size(MOST_POINTS)) / width + 2;
+    let mut parts = parts_of(grains::rectangle(width, height));
+    random.shuffle(&mut parts.points);
+    let corners = &parts.corners;
+    parts.points.sort_by_key(|p| corners.contains(p));
+    parts.missing = parts.points.drain(..count).collect();
+    parts.missing.sort();
     if random.chance(1, 3) {
         spoil_missing(random, &mut parts);
     }

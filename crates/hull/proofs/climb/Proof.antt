@@ -30,7 +30,7 @@ long : (c : tie.At-loop Inv-loop μ-loop) → length (c .loop .stack) ≡ length
 long c = c .loop .inv .0 ∙ length-set (now (c .before .before .before .before .args .stack)) 0 _
 
 row-end-requires : tie.Need-row-end-requires Inv-loop μ-loop
-row-end-requires c κs = omega arith
+row-end-requires c κs = (c .before .before .before .before .before .pre .rising, omega arith)
 
 mul-push-last : tie.Need-mul-push-last Inv-loop μ-loop
 mul-push-last c = omega arith

@@ -24,7 +24,7 @@ loop-holds c = let a = c .before .before in
     (refl, descending-start _ _ _ (omega (arith, a .pre .0 .some)) (a .pre .1))
 
 row-begin-requires : tie.Need-row-begin-requires Inv-loop μ-loop
-row-begin-requires c κs = (omega (arith, c .loop-test .taken), omega (arith, c .before .loop .inv .1 .upto))
+row-begin-requires c κs = (c .before .before .before .before .pre .0 .rising, omega (arith, c .loop-test .taken), omega (arith, c .before .loop .inv .1 .upto))
 
 mul-push-first : tie.Need-mul-push-first Inv-loop μ-loop
 mul-push-first c = omega arith

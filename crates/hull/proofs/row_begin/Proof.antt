@@ -1,15 +1,27 @@
 -- `hull::row_begin` meets its contract: a turn of the loop takes one point more. Assumes nothing.
 use Prim.Native.Nat.{_-_}
 use native.Mathlib.Omega.{arith}
-use Rattle.hull.proofs.Rows.{Running, running-one, running-back, row-from}
+use Rattle.hull.proofs.Rows.{Running, running-one, running-back, row-goes-back, row-begins, row-from}
 use Rattle.hull.proofs.row_begin.Statement.{statement}
 use Rattle.hull.proofs.row_begin.Tie as tie
 
 abbrev Inv-loop : tie.InvT-loop
-Inv-loop keys end begin₀ begin = Running keys begin end
+Inv-loop keys end bound begin₀ begin = Running keys begin end
 
 abbrev μ-loop : tie.MeasureT-loop
-μ-loop keys end begin₀ begin = begin
+μ-loop keys end bound begin₀ begin = begin
+
+sub-bound : tie.Need-sub-bound Inv-loop μ-loop
+sub-bound c = omega arith
+
+mul-bound : tie.Need-mul-bound Inv-loop μ-loop
+mul-bound c = omega arith
+
+shared-slice-read-bound : tie.Need-shared-slice-read-bound Inv-loop μ-loop
+shared-slice-read-bound c = omega arith
+
+mul-bound-2 : tie.Need-mul-bound-2 Inv-loop μ-loop
+mul-bound-2 c = let a = c .before in omega (arith, a .pre .0 .below (a .args .end - 1) (omega (arith, a .pre .1, a .pre .2)))
 
 sub-begin : tie.Need-sub-begin Inv-loop μ-loop
 sub-begin c = omega arith
@@ -26,14 +38,9 @@ mul-if1 c = omega arith
 shared-slice-read-if1 : tie.Need-shared-slice-read-if1 Inv-loop μ-loop
 shared-slice-read-if1 c = omega arith
 
-mul-if1-2 : tie.Need-mul-if1-2 Inv-loop μ-loop
-mul-if1-2 c = omega arith
-
-shared-slice-read-if1-2 : tie.Need-shared-slice-read-if1-2 Inv-loop μ-loop
-shared-slice-read-if1-2 c = omega arith
-
 returns : tie.Need-returns Inv-loop μ-loop
-returns c = row-from _ _ _ (c .before .before .before .before .loop .inv) (λ l. c .if1 .taken)
+returns c = let l = c .before .before .before in
+    row-from _ _ _ (l .loop .inv) (λ _. row-begins _ _ _ (l .loop .inv) (c .if1 .taken))
 
 sub-begin-2 : tie.Need-sub-begin-2 Inv-loop μ-loop
 sub-begin-2 c = omega arith
@@ -42,7 +49,9 @@ loop-less : tie.Need-loop-less Inv-loop μ-loop
 loop-less c = omega arith
 
 loop-again : tie.Need-loop-again Inv-loop μ-loop
-loop-again c = running-back _ _ _ (c .before .before .before .before .loop .inv) (c .before .before .before .loop-test .taken) (c .if1 .left)
+loop-again c = let l = c .before .before .before in
+    let e = c .before .before .loop-test .taken in
+    running-back _ _ _ (l .loop .inv) e (row-goes-back _ _ _ (l .loop .inv) (l .before .before .pre .0) e (omega (arith, c .if1 .left)))
 
 returns-2 : tie.Need-returns-2 Inv-loop μ-loop
 returns-2 c = row-from _ _ _ (c .before .loop .inv) (λ l. absurd (omega (arith, l, c .loop-test .left)))
@@ -53,13 +62,15 @@ row-begin-spec =
     (tie.spec
     Inv-loop
     μ-loop
+    sub-bound
+    mul-bound
+    shared-slice-read-bound
+    mul-bound-2
     sub-begin
     loop-holds
     sub-if1
     mul-if1
     shared-slice-read-if1
-    mul-if1-2
-    shared-slice-read-if1-2
     returns
     sub-begin-2
     loop-less

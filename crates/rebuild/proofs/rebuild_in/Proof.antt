@@ -48,25 +48,23 @@ same-length : tie.Need-same-length
 same-length c = search needs
 
 returns : tie.Need-returns
-returns c = let f = c .before .before .refusal-of-points in
-    let p = c .before .before .before .before .before .before in
-    points-declined (corners-of p) (missing-of p) (room-of p) (outline-of p) (outlines p) (f .result .found .number) (f .result .found .place) (f .result .found .points) (f .ensures .rows) (c .if1 .taken)
+returns c = let f = c .before .refusal-of-points in
+    let p = c .before .before .before .before .before in
+    points-declined (corners-of p) (missing-of p) (room-of p) (outline-of p) (outlines p) (f .result .number) (f .result .place) (f .result .points) (f .ensures) (c .if1 .taken)
 
 slice-reshare-prefix-result : tie.Need-slice-reshare-prefix-result
-slice-reshare-prefix-result c = let p = c .before .before .before .before .before .before in
+slice-reshare-prefix-result c = let p = c .before .before .before .before .before in
     front-few (corners-of p) (missing-of p) (room-of p) (outline-of p) (outlines p)
 
 slice-aggregate-result : tie.Need-slice-aggregate-result
-slice-aggregate-result c = let p = c .before .before .before .before .before .before .before in
+slice-aggregate-result c = let p = c .before .before .before .before .before .before in
     sym (length-take-le (length (corners-of p) / 2) (outline-of p) (front-few (corners-of p) (missing-of p) (room-of p) (outline-of p) (outlines p)))
 
 result-requires : tie.Need-result-requires
 result-requires c κs = let e = c .before .before in
-    let f = e .before .before .refusal-of-points in
-    let p = e .before .before .before .before .before .before in (
-      points-walked (corners-of p) (missing-of p) (room-of p) (outline-of p) (outlines p) (f .result .found .number) (f .result .found .place) (f .result .found .points) (f .ensures .rows) (e .if1 .left),
-      f .ensures .count (e .if1 .left),
-    )
+    let f = e .before .refusal-of-points in
+    let p = e .before .before .before .before .before in
+    points-walked (corners-of p) (missing-of p) (room-of p) (outline-of p) (outlines p) (f .result .number) (f .result .place) (f .result .points) (f .ensures) (e .if1 .left)
 
 same-length-2 : tie.Need-same-length-2
 same-length-2 c = search needs
@@ -76,9 +74,9 @@ same-length-3 c = search needs
 
 returns-2 : tie.Need-returns-2
 returns-2 c = let e = c .before .before .before .before in
-    let f = e .before .before .refusal-of-points in
-    let p = e .before .before .before .before .before .before in
-    points-passed (corners-of p) (missing-of p) (room-of p) (outline-of p) (outlines p) (f .result .found .number) (f .result .found .place) (f .result .found .points) (f .ensures .rows) (e .if1 .left) _ _ (c .before .result .ensures)
+    let f = e .before .refusal-of-points in
+    let p = e .before .before .before .before .before in
+    points-passed (corners-of p) (missing-of p) (room-of p) (outline-of p) (outlines p) (f .result .number) (f .result .place) (f .result .points) (f .ensures) (e .if1 .left) _ _ (c .before .result .ensures)
 
 pub rebuild-in-spec : {M : Type 1} → statement M
 rebuild-in-spec =

@@ -11,7 +11,7 @@ use Rattle.lattice.specs.Hull.{CornerList}
 use Rattle.lattice.proofs.Numbers.{points-length}
 use Rattle.packed.specs.Packed.{unpacked}
 use Rattle.packed.proofs.Tests.{tells-yes, tells-no}
-use Rattle.rebuild.proofs.Refusing.{looks-on, no-corner-list, some-stray, some-misplaced, points-pass}
+use Rattle.rebuild.proofs.Refusing.{looks-as, no-corner-list, some-stray, some-misplaced, points-pass}
 use Rattle.rebuild.proofs.Straying.{all-in-order}
 use Rattle.rebuild.proofs.refusal_of_points.Statement.{statement}
 use Rattle.rebuild.proofs.refusal_of_points.Tie as tie
@@ -25,7 +25,7 @@ declined-requires c κs = search needs
 returns : tie.Need-returns
 returns c = let l = c .before .before in
     let a = l .before .before .args in
-    looks-on 8 0 (omega arith) (c .declined .ensures) (no-corner-list (map unpacked (now (a .outline))) (points (now (a .missing))) (tells-no (not-true (l .is-corner-list .result) (c .before .if1 .taken)) (l .is-corner-list .ensures)))
+    looks-as (c .declined .ensures) (no-corner-list (map unpacked (now (a .outline))) (points (now (a .missing))) (tells-no (not-true (l .is-corner-list .result) (c .before .if1 .taken)) (l .is-corner-list .ensures)))
 
 first-stray-requires : tie.Need-first-stray-requires
 first-stray-requires c κs = search needs
@@ -46,7 +46,7 @@ listed c = tells-yes (not-false (c .before .is-corner-list .result) (c .if1 .lef
 returns-2 : tie.Need-returns-2
 returns-2 c = let s = c .before .before in
     let e = s .before in
-    looks-on 9 _ (omega arith) (c .declined2 .ensures)
+    looks-as (c .declined2 .ensures)
     (some-stray (corners-of e) (points-of e) (listed e) _ (s .first-stray .ensures)
     (omega (arith, points-length (now (e .before .before .before .args .missing)), c .before .if2 .taken)))
 
@@ -67,19 +67,16 @@ returns-3 : tie.Need-returns-3
 returns-3 c = let m = c .before .before in
     let s = m .before .before in
     let e = s .before in
-    looks-on 10 _ (omega arith) (c .declined3 .ensures)
-    (some-misplaced (corners-of e) (points-of e) (listed e) _ (s .first-stray .ensures) (in-order (m .before)) _ (m .first-misplaced .ensures .first)
+    looks-as (c .declined3 .ensures)
+    (some-misplaced (corners-of e) (points-of e) (listed e) _ (s .first-stray .ensures) (in-order (m .before)) _ (m .first-misplaced .ensures)
     (omega (arith, points-length (now (e .before .before .before .args .missing)), c .before .if3 .taken)))
 
 returns-4 : tie.Need-returns-4
 returns-4 c = let m = c .before in
     let s = m .before .before in
     let e = s .before in
-    let l : length (points-of e) ≤ m .first-misplaced .result .place = omega (arith, points-length (now (e .before .before .before .args .missing)), c .if3 .left) in
-    record {
-      rows = points-pass (corners-of e) (points-of e) (listed e) _ (s .first-stray .ensures) (in-order (m .before)) _ (m .first-misplaced .ensures .first) l;
-      count = λ _. m .first-misplaced .ensures .count l;
-    }
+    points-pass (corners-of e) (points-of e) (listed e) _ (s .first-stray .ensures) (in-order (m .before)) _ (m .first-misplaced .ensures)
+    (omega (arith, points-length (now (e .before .before .before .args .missing)), c .if3 .left))
 
 pub refusal-of-points-spec : {M : Type 1} → statement M
 refusal-of-points-spec =

@@ -1,0 +1,211 @@
+-- Round the corners, gains less losses add up to Pick's formula: so they give the number of the hull's lattice points. Assumes nothing.
+use mathlib.Core.Path.{_≡_, refl, sym, _∙_, ap, subst}
+use mathlib.Core.List.{List, [], _∷_, map}
+use Prim.Native.Nat.{ℕ, zero, suc, _+_, _-_, _*_, _/_, _%_, _≤_, _<_}
+use native.Mathlib.Nat.{mul-le-mul-right}
+use native.Mathlib.Numerals.{add-one}
+use native.Mathlib.Omega.{arith}
+use lib.ListN.{length, getD, drop, length-map}
+use lib.Seq.{drop-cons}
+use lib.IntN.{ℤ, pos, negsuc, negℤ, natAbs, _+ℤ_, _*ℤ_, _-ℤ_}
+use Rattle.whole.proofs.Whole.{ring, quote, linear≡, _∗≡_, _∔_}
+use Rattle.lattice.specs.Point.{Point, InRange, In}
+use Rattle.lattice.specs.Hull.{Of}
+use Rattle.lattice.proofs.Places.{lt-or-le}
+use Rattle.lattice.proofs.Lists.{either}
+use Rattle.lattice.proofs.MissingLists.{hull-list-exists}
+use Rattle.lattice.proofs.RowLists.{row-order-exists, row-order-length}
+use Rattle.packed.specs.Packed.{side, cells, offset, unpacked}
+use Rattle.packed.specs.Corners.{HullOf, Cornered, CountOf}
+use Rattle.packed.proofs.KeyLaws.{in-unpacked, lists-small}
+use Rattle.packed.proofs.RowOrder.{unpacked-in-range}
+use Rattle.pick.specs.Pick.{divisor, span, cross, around, area, border, twiceCount}
+use Rattle.pick.specs.Edge.{distance, steps, gain, loss}
+use Rattle.pick.proofs.Moved.{moved, twice-count-moved}
+use Rattle.pick.proofs.Pick.{pick}
+
+-- ---- no product is large: a column times a row
+pub column-times-row : (a b : ℕ) → b < cells → a % side * (b / side) < cells
+column-times-row a b h = let c : a % side ≤ 16383 = omega arith in omega (arith, h, mul-le-mul-right (b / side) c)
+
+-- ---- an edge
+distance-is : (a b : ℕ) → natAbs (pos b -ℤ pos a) ≡ distance a b
+distance-is a b =
+    either (lt-or-le a b)
+    (λ h. let e : b ≡ a + (b - a) = omega arith in
+    let f : distance a b ≡ b - a = omega arith in
+    ap natAbs (up (pos a) (pos b) (pos (b - a)) (ap pos e)) ∙ sym f)
+    (λ h. let e : a ≡ b + (a - b) = omega arith in
+    let f : distance a b ≡ a - b = omega arith in
+    ap natAbs (down (pos a) (pos b) (pos (a - b)) (ap pos e)) ∙ absolute (a - b) ∙ sym f)
+  where
+    up : (a b d : ℤ) → b ≡ a +ℤ d → b -ℤ a ≡ d
+    up a b d e = linear≡ (a ∷ b ∷ d ∷ []) (pos 1 ∗≡ e) (search quote depth 20) tt
+
+    down : (a b d : ℤ) → a ≡ b +ℤ d → b -ℤ a ≡ negℤ d
+    down a b d e = linear≡ (a ∷ b ∷ d ∷ []) (negsuc 0 ∗≡ e) (search quote depth 20) tt
+
+    absolute : (d : ℕ) → natAbs (negℤ (pos d)) ≡ d
+    absolute zero = refl
+    absolute (suc d) = refl
+
+-- a packed point whose coordinates start at 0
+abbrev natural-point : ℕ → Point
+natural-point k = record { x = pos (k % side); y = pos (k / side) }
+
+edge : (a b : ℕ) → cross (natural-point a) (natural-point b) +ℤ span (natural-point a) (natural-point b) ≡ pos (gain a b) -ℤ pos (loss a b)
+unfolding span
+edge a b =
+    ap (λ n. cross (natural-point a) (natural-point b) +ℤ pos n)
+    (λ i. divisor (distance-is (a % side) (b % side) i) (distance-is (a / side) (b / side) i))
+    ∙ ring (pos (a % side) ∷ pos (a / side) ∷ pos (b % side) ∷ pos (b / side) ∷ pos (steps a b) ∷ []) (search quote depth 20) tt
+
+-- ---- the edges from one corner through a list
+abbrev pub sum : (ℕ → ℕ → ℕ) → ℕ → List ℕ → ℕ
+sum f before [] = 0
+sum f before (b ∷ l) = f before b + sum f b l
+
+abbrev lastOf : ℕ → List ℕ → ℕ
+lastOf a [] = a
+lastOf a (b ∷ l) = lastOf b l
+
+last-at : (a : ℕ) (l : List ℕ) → getD (a ∷ l) (length l) 0 ≡ lastOf a l
+last-at a [] = refl
+last-at a (b ∷ l) = last-at b l
+
+last-of : (a : ℕ) (l : List ℕ) → getD (a ∷ l) (length (a ∷ l) - 1) 0 ≡ lastOf a l
+last-of a l = let e : length (a ∷ l) - 1 ≡ length l = omega arith in ap (λ n. getD (a ∷ l) n 0) e ∙ last-at a l
+
+-- and the closing one
+edges : (c a : ℕ) (l : List ℕ)
+    → around cross (natural-point c) (natural-point a) (map natural-point l) +ℤ around span (natural-point c) (natural-point a) (map natural-point l)
+    ≡ pos (gain (lastOf a l) c + sum gain a l) -ℤ pos (loss (lastOf a l) c + sum loss a l)
+edges c a [] = edge a c ∙ ring (pos (gain a c) ∷ pos (loss a c) ∷ []) (search quote depth 20) tt
+edges c a (b ∷ l) =
+    more
+    (cross (natural-point a) (natural-point b)) (span (natural-point a) (natural-point b))
+    (around cross (natural-point c) (natural-point b) (map natural-point l)) (around span (natural-point c) (natural-point b) (map natural-point l))
+    (pos (gain a b)) (pos (loss a b)) (pos (gain (lastOf b l) c)) (pos (loss (lastOf b l) c)) (pos (sum gain b l)) (pos (sum loss b l))
+    (edge a b) (edges c b l)
+  where
+    more : (s t S T g h G H M N : ℤ) → s +ℤ t ≡ g -ℤ h → S +ℤ T ≡ G +ℤ M -ℤ (H +ℤ N)
+        → s +ℤ S +ℤ (t +ℤ T) ≡ G +ℤ (g +ℤ M) -ℤ (H +ℤ (h +ℤ N))
+    more s t S T g h G H M N e f =
+        linear≡ (s ∷ t ∷ S ∷ T ∷ g ∷ h ∷ G ∷ H ∷ M ∷ N ∷ []) (pos 1 ∗≡ e ∔ pos 1 ∗≡ f) (search quote depth 20 fits 4000) tt
+
+-- ---- all edges, the closing one first
+abbrev pub total : (ℕ → ℕ → ℕ) → List ℕ → ℕ
+total f corners = sum f (getD corners (length corners - 1) 0) corners
+
+natural-moved : (corners : List ℕ) → map unpacked corners ≡ moved (negℤ (pos offset)) (negℤ (pos offset)) (map natural-point corners)
+natural-moved [] = refl
+natural-moved (a ∷ l) = ap (λ m. unpacked a ∷ m) (natural-moved l)
+
+one-corner : (a : ℕ) → 2 + total gain (a ∷ []) ≡ 2 * 1 + total loss (a ∷ [])
+one-corner a =
+    let x : distance (a % side) (a % side) ≡ 0 = omega arith in
+    let y : distance (a / side) (a / side) ≡ 0 = omega arith in
+    let e : steps a a ≡ 0 = λ i. divisor (x i) (y i) in
+    omega (arith, e)
+
+module _ (a b : ℕ) (l : List ℕ) where
+  abbrev corners : List ℕ
+  corners = a ∷ b ∷ l
+
+  all-edges : area (map natural-point corners) +ℤ border (map natural-point corners) ≡ pos (total gain corners) -ℤ pos (total loss corners)
+  all-edges =
+      edges a a (b ∷ l)
+      ∙ ap (λ z. pos (gain z a + sum gain a (b ∷ l)) -ℤ pos (loss z a + sum loss a (b ∷ l))) (sym (last-of a (b ∷ l)))
+
+  more-corners : (n : ℕ) → pos 2 *ℤ pos n ≡ twiceCount (map unpacked corners) → 2 + total gain corners ≡ 2 * n + total loss corners
+  more-corners n e =
+      ap natAbs (sums (pos (total gain corners)) (pos (total loss corners)) (area (map natural-point corners)) (border (map natural-point corners)) (pos n) all-edges
+      (e ∙ ap twiceCount (natural-moved corners) ∙ twice-count-moved (negℤ (pos offset)) (negℤ (pos offset)) (map natural-point corners)))
+    where
+      sums : (G L A B n : ℤ) → A +ℤ B ≡ G -ℤ L → pos 2 *ℤ n ≡ A +ℤ B +ℤ pos 2 → pos 2 +ℤ G ≡ pos 2 *ℤ n +ℤ L
+      sums G L A B n e f = linear≡ (G ∷ L ∷ A ∷ B ∷ n ∷ []) (negsuc 0 ∗≡ e ∔ negsuc 0 ∗≡ f) (search quote depth 20) tt
+
+twice : (corners : List ℕ) (n : ℕ) → 0 < length corners → pos 2 *ℤ pos n ≡ twiceCount (map unpacked corners)
+    → 2 + total gain corners ≡ 2 * n + total loss corners
+twice [] n h e = absurd (omega (arith, h))
+twice (a ∷ []) n h e = let one : 2 * n ≡ 2 = ap natAbs e in omega (arith, one, one-corner a)
+twice (a ∷ b ∷ l) n h e = more-corners a b l n e
+
+-- ---- the number of the hull's lattice points
+counted : (corners : List ℕ) → Cornered corners → 0 < length corners
+    → (n : ℕ) × CountOf (HullOf corners) n × (2 + total gain corners ≡ 2 * n + total loss corners)
+counted corners h some =
+    let r = hull-list-exists (map unpacked corners) in
+    (length (r .0), (r .0, r .1, refl), twice corners (length (r .0)) some (pick (map unpacked corners) (map unpacked corners) (r .0) (h .listed) (r .1)))
+
+-- no corners, no points
+pub none-counted : (corners : List ℕ) → Cornered corners → length corners ≡ 0 → CountOf (HullOf corners) 0
+none-counted [] h e =
+    let r = hull-list-exists [] in
+    let d : 2 * length (r .0) ≡ 0 = ap natAbs (pick [] [] (r .0) (h .listed) (r .1)) in
+    (r .0, r .1, omega (arith, d))
+none-counted (a ∷ l) h e = absurd (omega (arith, e))
+
+-- ---- the sums stay small: no two corners are the same, so they are not more than the range has points
+pub few-corners : (corners : List ℕ) → Cornered corners → length corners ≤ cells
+few-corners corners h =
+    let r = row-order-exists (map unpacked corners) in
+    omega (
+      arith,
+      length-map corners unpacked,
+      row-order-length (map unpacked corners) (r .0) (h .listed .once) (r .1),
+      lists-small (Of (map unpacked corners)) in-range (r .0) (r .1),
+    )
+  where
+    in-range : (p : Point) → In p (map unpacked corners) → InRange p
+    in-range p m =
+        let k = in-unpacked corners p m in
+        subst InRange (sym (k .2)) (unpacked-in-range (getD corners (k .0) 0) (h .below (k .0) (k .1)))
+
+-- ---- what the loop has summed before corner i
+next-corner : (f : ℕ → ℕ → ℕ) (corners : List ℕ) (before i : ℕ) → i < length corners
+    → sum f before (drop i corners) ≡ f before (getD corners i 0) + sum f (getD corners i 0) (drop (i + 1) corners)
+next-corner f corners before i h =
+    ap (sum f before) (drop-cons corners i 0 h) ∙ ap (λ n. f before (getD corners i 0) + sum f (getD corners i 0) (drop n corners)) (sym (add-one i))
+
+no-corner : (f : ℕ → ℕ → ℕ) (corners : List ℕ) (before i : ℕ) → length corners ≤ i → sum f before (drop i corners) ≡ 0
+no-corner f [] before zero h = refl
+no-corner f [] before (suc i) h = refl
+no-corner f (a ∷ l) before zero h = absurd (omega (arith, h))
+no-corner f (a ∷ l) before (suc i) h = no-corner f l before i (omega arith)
+
+pub record Summed (corners : List ℕ) (before gained lost i : ℕ) : Type 0 where
+  pub upto : i ≤ length corners
+  pub below : before < cells
+  pub gains : gained + sum gain before (drop i corners) ≡ 2 + total gain corners
+  pub losses : lost + sum loss before (drop i corners) ≡ total loss corners
+  pub few-gained : gained ≤ 2 + i * 8589934592
+  pub few-lost : lost ≤ i * 8589934592
+
+module _ (corners : List ℕ) (h : Cornered corners) (some : 0 < length corners) where
+  pub summed-none : Summed corners (getD corners (length corners - 1) 0) 2 0 0
+  summed-none = record {
+    upto = omega arith;
+    below = h .below (length corners - 1) (omega (arith, some));
+    gains = refl;
+    losses = omega arith;
+    few-gained = omega arith;
+    few-lost = omega arith;
+  }
+
+  module _ (before gained lost i : ℕ) (s : Summed corners before gained lost i) where
+    pub summed-more : i < length corners → (g l : ℕ) → (g ≡ gain before (getD corners i 0)) × (g < 8589934592) → (l ≡ loss before (getD corners i 0)) × (l < 8589934592)
+        → Summed corners (getD corners i 0) (gained + g) (lost + l) (i + 1)
+    summed-more u g l e f = record {
+      upto = omega arith;
+      below = h .below i u;
+      gains = omega (arith, s .gains, e .0, next-corner gain corners before i u);
+      losses = omega (arith, s .losses, f .0, next-corner loss corners before i u);
+      few-gained = omega (arith, s .few-gained, e .1);
+      few-lost = omega (arith, s .few-lost, f .1);
+    }
+
+    pub summed-all : length corners ≤ i → (n : ℕ) × CountOf (HullOf corners) n × (gained ≡ 2 * n + lost)
+    summed-all u =
+        let r = counted corners h some in
+        (r .0, r .1, omega (arith, s .gains, s .losses, r .2, no-corner gain corners before i u, no-corner loss corners before i u))
