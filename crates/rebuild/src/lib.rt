@@ -333,15 +333,15 @@ fn misplaced_by_rows(outline: &[u32], peak: usize, missing: &[i32]) -> usize
     let n = missing.len() / 2;
     let apart = all_apart(outline, missing);
     let last = outline[peak] / SIDE;
-    let mut crossing = stretch::start();
+    let mut crossing = stretch::start(outline, peak);
     let mut begin: usize = 0;
     let mut y = outline[0] / SIDE;
     while y <= last {
         if begin == n {
             return n;
         }
-        crossing = stretch::of_next(outline, peak, y, crossing);
-        let stretch = crossing.stretch;
+        let stretch = stretch::across(crossing);
+        crossing = stretch::next(outline, peak, y, crossing);
         let end = walk::end_of_row(missing, packed::placed(y), begin);
         if ends_misplaced(outline, stretch, missing, apart, begin, end) {
             return misplaced_in_row(outline, stretch, missing, apart, begin, end);

@@ -13,7 +13,7 @@ use Rattle.lattice.specs.Point.{Before}
 use Rattle.lattice.specs.Hull.{turn}
 use Rattle.lattice.proofs.Lists.{either}
 use Rattle.lattice.proofs.Places.{lt-or-le}
-use Rattle.packed.specs.Packed.{side, cells, placed, unpacked}
+use Rattle.packed.specs.Packed.{side, placed, unpacked}
 use Rattle.packed.proofs.RowOrder.{before-unpacked, unpacked-before}
 use Rattle.stretch.specs.Stretch.{cell, LeftOf, Slope, EndsAt, BeginsAt}
 
@@ -45,7 +45,7 @@ at-least x bound steep top s e = (
         le-div-iff-mul-le s .1 g
 
 -- ---- an edge in natural numbers: the columns of both its ends, each taken as often as there are rows from row y to the other end
-abbrev weighed : ℕ → ℕ → ℕ → ℕ → ℕ
+abbrev pub weighed : ℕ → ℕ → ℕ → ℕ → ℕ
 weighed a b passed rest = a % side * rest + b % side * passed
 
 module _ (a b y x passed rest : ℕ) (e : y ≡ a / side + passed) (f : b / side ≡ a / side + passed + rest) where
@@ -113,13 +113,6 @@ module _ (a b y : ℕ) (h : Slope a b y) where
 
   pub some-rows : 0 < passed + rest
   some-rows = omega (arith, h .low, h .high, h .steep)
-
-  -- no product is large: a column times rows
-  pub weighed-parts : (a % side * rest < cells) × (b % side * passed < cells)
-  weighed-parts = (small (a % side) rest (omega arith) (omega (arith, h .b-below)), small (b % side) passed (omega arith) (omega (arith, h .b-below, h .high)))
-    where
-      small : (m n : ℕ) → m < side → n < side → m * n < cells
-      small m n l k = let g : m ≤ 16383 = omega arith in omega (arith, k, mul-le-mul-right n g)
 
   pub weighed-small : weighed a b passed rest ≤ 16383 * (passed + rest)
   weighed-small =

@@ -19,7 +19,7 @@ use Rattle.lattice.proofs.Polygon.{InsideEnds}
 use Rattle.packed.specs.Packed.{side, cells, placed, unpacked}
 use Rattle.packed.proofs.RowOrder.{unpacked-before, placed-order, order-placed, placed-grows}
 use Rattle.packed.proofs.KeyLaws.{unpacked-at, unpacked-in}
-use Rattle.stretch.specs.Stretch.{cell, Bounded, LeftOf, Slope, EndsAt, BeginsAt, StretchOf, Peaked, Tall, After, Rises, Falls, RisesFrom, FallsFrom}
+use Rattle.stretch.specs.Stretch.{cell, Bounded, LeftOf, EndsAt, BeginsAt, StretchOf, Peaked, Tall, After, Rises, Falls, RisesFrom, FallsFrom, FirstRises}
 use Rattle.stretch.specs.declared.Stretch.{Stretch}
 use Rattle.stretch.proofs.Counting.{at-foot, at-head}
 use Rattle.stretch.proofs.Rowing.{Between, in-hull, cells-between, between-cells}
@@ -84,13 +84,7 @@ not-right a b p e h g l =
     linear⊥ (coordinates (a ∷ b ∷ p ∷ [])) (gap< r ⊞ gap< (product-positive w k)) (search quote depth 20) tt
 
 -- ---- the corner after another
-after-same : (corners : List ℕ) (i r s : ℕ) → After corners i r → After corners i s → r ≡ s
-after-same corners i r s (inl h) (inl g) = h .1 ∙ sym (g .1)
-after-same corners i r s (inl h) (inr g) = absurd (omega (arith, h .0, g .0))
-after-same corners i r s (inr h) (inl g) = absurd (omega (arith, h .0, g .0))
-after-same corners i r s (inr h) (inr g) = h .1 ∙ sym (g .1)
-
-after-below : (corners : List ℕ) (i r : ℕ) → ((j : ℕ) → j < length corners → getD corners j 0 < cells) → After corners i r → r < cells
+pub after-below : (corners : List ℕ) (i r : ℕ) → ((j : ℕ) → j < length corners → getD corners j 0 < cells) → After corners i r → r < cells
 after-below corners i r f (inl h) = subst (λ n. n < cells) (sym (h .1)) (f (suc i) (h .0))
 after-below corners i r f (inr h) = subst (λ n. n < cells) (sym (h .1)) (f 0 (omega (arith, h .0)))
 
@@ -128,44 +122,39 @@ module _ (corners : List ℕ) (peak y : ℕ) (h : Peaked corners peak y) where
     later : 0 < peak
     later = either (lt-or-le 0 peak) (λ l. l) (λ l. let e : peak ≡ 0 = omega arith in absurd (omega (arith, t, ap rowAt e)))
 
-    pub rising-near : (near : ℕ) → near < peak → rowAt near < y → RisesFrom corners peak y near
-    rising-near near l u = record { before = l; low = omega arith; steep = inl u }
-
-    pub rising-first : (rowAt 0 ≡ rowAt 1 → ⊥) → RisesFrom corners peak y 0
-    rising-first n = record {
-      before = later;
-      low = h .from-row;
-      steep = inr (either (lt-or-le (rowAt 0) (rowAt 1)) (λ l. l)
-          (λ l. absurd (n (omega (arith, l, first-row 1 (omega (arith, later, h .peaks .inside)))))));
-    }
-
     pub two-corners : 1 < length corners
     two-corners = omega (arith, later, h .peaks .inside)
 
-    pub rising-second : rowAt 0 ≡ rowAt 1 → RisesFrom corners peak y 1
-    rising-second e = record { before = second; low = omega (arith, e, h .from-row); steep = inr rises }
+    pub rising-first : (rowAt 0 ≡ rowAt 1 → ⊥) → FirstRises corners peak 0
+    rising-first n = record { before = later; rises = record { inside = two-corners; low = omega arith; high = first-row 1 two-corners; steep = rises } }
+      where
+        rises : rowAt 0 < rowAt 1
+        rises = either (lt-or-le (rowAt 0) (rowAt 1)) (λ l. l) (λ l. absurd (n (omega (arith, l, first-row 1 two-corners))))
+
+    pub rising-second : rowAt 0 ≡ rowAt 1 → FirstRises corners peak 1
+    rising-second e = record { before = second; rises = record { inside = third; low = omega (arith, e); high = first-row 2 third; steep = rises } }
       where
         second : 1 < peak
         second =
             either (lt-or-le 1 peak) (λ l. l) (λ l. let d : peak ≡ 1 = omega (arith, later) in absurd (omega (arith, t, e, ap rowAt d)))
 
+        third : 2 < length corners
+        third = omega (arith, second, h .peaks .inside)
+
         rises : rowAt 1 < rowAt 2
         rises =
-            let l : 2 < length corners = omega (arith, second, h .peaks .inside) in
             order-placed (rowAt 1) (rowAt 2)
             (above (unpacked (getD corners 0 0)) (unpacked (getD corners 1 0)) (unpacked (getD corners 2 0)) (ap placed e)
-            (placed-order (getD corners 0 0 % side) (getD corners 1 0 % side) (omega (arith, e, first-least 0 two-corners))) (left-of 0 1 2 (omega arith) (omega arith) l))
+            (placed-order (getD corners 0 0 % side) (getD corners 1 0 % side) (omega (arith, e, first-least 0 two-corners))) (left-of 0 1 2 (omega arith) (omega arith) third))
 
-    pub falling-near : (near : ℕ) → peak ≤ near → suc near < length corners → rowAt (suc near) < y → FallsFrom corners peak y near
-    falling-near near p l u = record { before = p; end = getD corners (suc near) 0; after = inl (l, refl); low = omega arith; steep = inl u }
-
-    pub falling-last : FallsFrom corners peak y (length corners - 1)
+    -- the last edge falls to the first corner
+    pub falling-last : Falls corners (rowAt 0) (length corners - 1) (getD corners 0 0)
     falling-last = record {
-      before = omega (arith, h .peaks .inside);
-      end = getD corners 0 0;
-      after = inr (omega (arith, h .peaks .inside), refl);
-      low = h .from-row;
-      steep = inr (either (lt-or-le (rowAt 0) (rowAt (length corners - 1))) (λ l. l) (λ l. absurd (falls l)));
+      inside = omega (arith, two-corners);
+      after = inr (omega (arith, two-corners), refl);
+      high = first-row (length corners - 1) (omega (arith, two-corners));
+      low = omega arith;
+      steep = either (lt-or-le (rowAt 0) (rowAt (length corners - 1))) (λ l. l) (λ l. absurd (falls l));
     }
       where
         falls : rowAt (length corners - 1) ≤ rowAt 0 → ⊥
@@ -181,45 +170,42 @@ module _ (corners : List ℕ) (peak y : ℕ) (h : Peaked corners peak y) where
             (left-of 0 peak k later m (omega (arith, two-corners))))
             (λ m. let d : peak ≡ k = omega (arith, m, h .peaks .inside) in omega (arith, t, e, ap rowAt d))
 
-  -- ---- one step further
+  -- ---- one edge further
   module _ (i : ℕ) where
-    next : suc i ≡ i + 1
-    next = sym (add-one i)
-
     pub rises-on : RisesFrom corners peak y i → rowAt (i + 1) < y → RisesFrom corners peak y (i + 1)
     rises-on r u = record {
       before = either (lt-or-le (i + 1) peak) (λ l. l)
           (λ l. let e : i + 1 ≡ peak = omega (arith, l, r .before) in absurd (omega (arith, u, h .to-row, ap rowAt e)));
-      low = omega arith;
-      steep = inl u;
+      low = u;
     }
 
     pub rises-here : RisesFrom corners peak y i → y ≤ rowAt (i + 1) → Rises corners y i
-    rises-here r v = let u : y ≤ rowAt (suc i) = subst (λ n. y ≤ rowAt n) (sym next) v in record {
+    rises-here r v = let u : y ≤ rowAt (suc i) = subst (λ n. y ≤ rowAt n) (add-one i) v in record {
       inside = omega (arith, r .before, h .peaks .inside);
-      low = r .low;
+      low = omega (arith, r .low);
       high = u;
-      steep = either (r .steep) (λ l. omega (arith, l, u)) (λ l. l);
+      steep = omega (arith, r .low, u);
     }
 
     pub falls-past : FallsFrom corners peak y i → rowAt i < y → peak < i
     falls-past r u =
-        either (lt-or-le peak i) (λ l. l) (λ l. let e : peak ≡ i = omega (arith, l, r .before) in absurd (omega (arith, u, h .to-row, ap rowAt e)))
+        either (lt-or-le peak i) (λ l. l) (λ l. let e : peak ≡ i = omega (arith, l, r .behind) in absurd (omega (arith, u, h .to-row, ap rowAt e)))
 
     pub falls-on : FallsFrom corners peak y i → rowAt i < y → FallsFrom corners peak y (i - 1)
-    falls-on r u = let e : suc (i - 1) ≡ i = omega (arith, falls-past r u) in record {
-      before = omega (arith, falls-past r u);
-      end = getD corners i 0;
-      after = inl (either (r .after) (λ l. omega (arith, l .0, falls-past r u)) (λ l. omega (arith, l .0, falls-past r u)), ap (λ n. getD corners n 0) (sym e));
-      low = omega arith;
-      steep = inl u;
+    falls-on r u = let e : i ≡ suc (i - 1) = omega (arith, falls-past r u) in record {
+      behind = omega (arith, falls-past r u);
+      inside = omega (arith, r .inside, falls-past r u);
+      low = subst (λ n. rowAt n < y) e u;
     }
 
-    pub falls-here : FallsFrom corners peak y i → y ≤ rowAt i → Falls corners y i
-    falls-here r u = record { end = r .end; after = r .after; high = u; low = r .low; steep = either (r .steep) (λ l. omega (arith, l, u)) (λ l. l) }
-
-    pub falls-inside : FallsFrom corners peak y i → i < length corners
-    falls-inside r = either (r .after) (λ l. omega (arith, l .0)) (λ l. omega (arith, l .0))
+    pub falls-here : FallsFrom corners peak y i → y ≤ rowAt i → Falls corners y i (getD corners (suc i) 0)
+    falls-here r u = record {
+      inside = omega (arith, r .inside);
+      after = inl (r .inside, refl);
+      high = u;
+      low = omega (arith, r .low);
+      steep = omega (arith, r .low, u);
+    }
 
 -- ---- what the two edges leave of a row
 placed-le : (m n : ℕ) → m ≤ n → placed m ≤ℤ placed n
@@ -274,7 +260,7 @@ module _ (corners : List ℕ) (peak y : ℕ) (h : Peaked corners peak y) where
           k .exactly x .1 (omega (arith, u .0, m, same-row), omega (arith, u .1, m, same-row));
     }
 
-  module _ (i : ℕ) (r : Rises corners y i) (j : ℕ) (f : Falls corners y j) (l : j < length corners) where
+  module _ (i : ℕ) (r : Rises corners y i) (j end : ℕ) (f : Falls corners y j end) where
     -- the ends of the two edges
     a : Point
     a = unpacked (getD corners i 0)
@@ -286,56 +272,56 @@ module _ (corners : List ℕ) (peak y : ℕ) (h : Peaked corners peak y) where
     d = unpacked (getD corners j 0)
 
     e : Point
-    e = unpacked (f .end)
+    e = unpacked end
 
     end-in : In e (map unpacked corners)
     unfolding e
     end-in = either (f .after)
         (λ k. subst (λ n. In (unpacked n) (map unpacked corners)) (sym (k .1)) (unpacked-in corners (suc j) (k .0)))
-        (λ k. subst (λ n. In (unpacked n) (map unpacked corners)) (sym (k .1)) (unpacked-in corners 0 (omega (arith, l))))
+        (λ k. subst (λ n. In (unpacked n) (map unpacked corners)) (sym (k .1)) (unpacked-in corners 0 (omega (arith, f .inside))))
 
     -- on the left of both, so of every edge
     left-of-all : (u v : Point) → ((q : Point) → In q (map unpacked corners) → NonNegative (turn u v q)) → (x : ℕ)
-        → LeftOf (getD corners i 0) (getD corners (suc i) 0) y x → LeftOf (getD corners j 0) (f .end) y x → NonNegative (turn u v (cell x y))
+        → LeftOf (getD corners i 0) (getD corners (suc i) 0) y x → LeftOf (getD corners j 0) end y x → NonNegative (turn u v (cell x y))
     unfolding a b d e
     left-of-all u v on x up down =
         either (le-or-lt (u .y) (v .y))
         (λ k. up-left u v a b (cell x y) (on a (unpacked-in corners i (omega (arith, r .inside)))) (on b (unpacked-in corners (suc i) (r .inside))) up
         (placed-order (getD corners i 0 / side) (getD corners (suc i) 0 / side) (r .steep)) (placed-le (getD corners i 0 / side) y (r .low))
         (placed-le y (getD corners (suc i) 0 / side) (r .high)) k)
-        (λ k. down-left u v d e (cell x y) (on d (unpacked-in corners j l)) (on e end-in) down
-        (placed-order (f .end / side) (getD corners j 0 / side) (f .steep)) (placed-le (f .end / side) y (f .low))
+        (λ k. down-left u v d e (cell x y) (on d (unpacked-in corners j (f .inside))) (on e end-in) down
+        (placed-order (end / side) (getD corners j 0 / side) (f .steep)) (placed-le (end / side) y (f .low))
         (placed-le y (getD corners j 0 / side) (f .high)) (le-of-lt k))
 
-    inside-ends : (x : ℕ) → Between corners last y x → LeftOf (getD corners i 0) (getD corners (suc i) 0) y x → LeftOf (getD corners j 0) (f .end) y x
+    inside-ends : (x : ℕ) → Between corners last y x → LeftOf (getD corners i 0) (getD corners (suc i) 0) y x → LeftOf (getD corners j 0) end y x
         → InsideEnds (map unpacked corners) (unpacked last) (cell x y)
     inside-ends x between up down = record {
       edges = λ k u. left-of-all (point (map unpacked corners) k) (point (map unpacked corners) (suc k)) (λ q m. inside q .0 (member m) .edges k u) x up down;
       closing = λ k u. left-of-all (point (map unpacked corners) k) (point (map unpacked corners) 0) (λ q m. inside q .0 (member m) .closing k u) x up down;
-      from-first = λ u. between .0 (subst (Before (cell x y)) (unpacked-at corners 0 (omega (arith, l))) u);
+      from-first = λ u. between .0 (subst (Before (cell x y)) (unpacked-at corners 0 (omega (arith, f .inside))) u);
       to-last = between .1;
     }
 
     ends-inside : (x : ℕ) → InsideEnds (map unpacked corners) (unpacked last) (cell x y)
-        → LeftOf (getD corners i 0) (getD corners (suc i) 0) y x × LeftOf (getD corners j 0) (f .end) y x
+        → LeftOf (getD corners i 0) (getD corners (suc i) 0) y x × LeftOf (getD corners j 0) end y x
     ends-inside x s = (
       subst₂ (λ p q. NonNegative (turn p q (cell x y))) (unpacked-at corners i (omega (arith, r .inside))) (unpacked-at corners (suc i) (r .inside))
           (s .edges i (omega (arith, r .inside, length-map corners unpacked))),
       either (f .after)
-          (λ k. subst₂ (λ p q. NonNegative (turn p q (cell x y))) (unpacked-at corners j l) (unpacked-at corners (suc j) (k .0) ∙ ap unpacked (sym (k .1)))
+          (λ k. subst₂ (λ p q. NonNegative (turn p q (cell x y))) (unpacked-at corners j (f .inside)) (unpacked-at corners (suc j) (k .0) ∙ ap unpacked (sym (k .1)))
           (s .edges j (omega (arith, k .0, length-map corners unpacked))))
-          (λ k. subst₂ (λ p q. NonNegative (turn p q (cell x y))) (unpacked-at corners j l) (unpacked-at corners 0 (omega (arith, l)) ∙ ap unpacked (sym (k .1)))
+          (λ k. subst₂ (λ p q. NonNegative (turn p q (cell x y))) (unpacked-at corners j (f .inside)) (unpacked-at corners 0 (omega (arith, f .inside)) ∙ ap unpacked (sym (k .1)))
           (s .closing j (omega (arith, k .0, length-map corners unpacked)))),
     )
 
     -- on the left of both it is between the first corner and the last
-    both-between : (x : ℕ) → x < side → LeftOf (getD corners i 0) (getD corners (suc i) 0) y x → LeftOf (getD corners j 0) (f .end) y x
+    both-between : (x : ℕ) → x < side → LeftOf (getD corners i 0) (getD corners (suc i) 0) y x → LeftOf (getD corners j 0) end y x
         → Between corners last y x
     both-between x n up down =
         cells-between corners peak y h x n
-        (either (lt-or-le (f .end / side) y) (λ k. omega (arith, h .from-row, end-from, k, f .low))
-        (λ k. let q : f .end / side ≡ y = omega (arith, k, f .low) in
-        omega (arith, end-from, q, at-foot (f .end) (getD corners j 0) y x q (omega (arith, q, f .steep)) down)))
+        (either (lt-or-le (end / side) y) (λ k. omega (arith, h .from-row, end-from, k, f .low))
+        (λ k. let q : end / side ≡ y = omega (arith, k, f .low) in
+        omega (arith, end-from, q, at-foot end (getD corners j 0) y x q (omega (arith, q, f .steep)) down)))
         (either (lt-or-le y (getD corners (suc i) 0 / side)) (λ k. omega (arith, n, k, top))
         (λ k. let q : getD corners (suc i) 0 / side ≡ y = omega (arith, k, r .high) in
         omega (arith, top, q, at-head (getD corners i 0) (getD corners (suc i) 0) y x q (omega (arith, q, r .steep)) up)))
@@ -343,46 +329,20 @@ module _ (corners : List ℕ) (peak y : ℕ) (h : Peaked corners peak y) where
         top : getD corners (suc i) 0 ≤ last
         top = h .peaks .greatest (suc i) (r .inside)
 
-        end-from : getD corners 0 0 ≤ f .end
+        end-from : getD corners 0 0 ≤ end
         end-from = either (f .after)
             (λ k. omega (arith, k .1, first-least corners peak y h j (k .0)))
             (λ k. omega (arith, k .1))
 
-    pub rising-slope : Slope (getD corners i 0) (getD corners (i + 1) 0) y
-    rising-slope = subst (λ k. Slope (getD corners i 0) (getD corners k 0) y) (sym (add-one i)) (record {
-      a-below = h .below i (omega (arith, r .inside));
-      b-below = h .below (suc i) (r .inside);
-      low = r .low;
-      high = r .high;
-      steep = r .steep;
-    })
-
-    module _ (end : ℕ) (after : After corners j end) where
-      same-end : end ≡ f .end
-      same-end = after-same corners j end (f .end) after (f .after)
-
-      pub falling-slope : Slope end (getD corners j 0) y
-      falling-slope = subst (λ k. Slope k (getD corners j 0) y) (sym same-end) (record {
-        a-below = after-below corners j (f .end) (h .below) (f .after);
-        b-below = h .below j l;
-        low = f .low;
-        high = f .high;
-        steep = f .steep;
-      })
-
-      pub crossed : (from to : ℕ) (t : Stretch) → EndsAt (getD corners i 0) (getD corners (i + 1) 0) y to → BeginsAt (getD corners j 0) end y from
-          → Bounded from to t → StretchOf (map unpacked corners) y t
-      crossed from to t k₁ k₂ k₃ = record {
-        rising = k₃ .in-order;
-        few = omega (arith, k₃ .ends, k₁ .few);
-        inside = λ x w.
-            let u = k₃ .exactly x .0 w in
-            let up = subst (λ k. LeftOf (getD corners i 0) (getD corners k 0) y x) (add-one i) (k₁ .exactly x .1 (u .1)) in
-            let down = subst (λ n. LeftOf (getD corners j 0) n y x) same-end (k₂ x .1 (u .0)) in
-            inside (cell x y) .1 (inside-ends x (both-between x (omega (arith, u .1, k₁ .few)) up down) up down);
-        all = λ x n m.
-            let v = ends-inside x (inside (cell x y) .0 m) in
-            let up = subst (λ k. LeftOf (getD corners i 0) (getD corners k 0) y x) (sym (add-one i)) (v .0) in
-            let down = subst (λ n. LeftOf (getD corners j 0) n y x) (sym same-end) (v .1) in
-            k₃ .exactly x .1 (k₂ x .0 down, k₁ .exactly x .0 up);
-      }
+    pub crossed : (from to : ℕ) (t : Stretch) → EndsAt (getD corners i 0) (getD corners (suc i) 0) y to → BeginsAt (getD corners j 0) end y from
+        → Bounded from to t → StretchOf (map unpacked corners) y t
+    crossed from to t k₁ k₂ k₃ = record {
+      rising = k₃ .in-order;
+      few = omega (arith, k₃ .ends, k₁ .few);
+      inside = λ x w.
+          let u = k₃ .exactly x .0 w in
+          let up = k₁ .exactly x .1 (u .1) in
+          let down = k₂ x .1 (u .0) in
+          inside (cell x y) .1 (inside-ends x (both-between x (omega (arith, u .1, k₁ .few)) up down) up down);
+      all = λ x n m. let v = ends-inside x (inside (cell x y) .0 m) in k₃ .exactly x .1 (k₂ x .0 (v .1), k₁ .exactly x .0 (v .0));
+    }

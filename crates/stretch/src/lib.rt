@@ -1,10 +1,9 @@
-// Where a hull begins and ends in each row: where two of its edges cross the row.
+// Where a hull begins and ends in each row: where two of its edges cross the row. Both are followed from row to row by one addition each.
 ghost use mathlib.Core.Path.{_≡_};
-ghost use mathlib.Core.List.{map};
-ghost use lib.ListN.{length};
-ghost use Prim.Native.Nat.{_<_};
-ghost use Rattle.packed.specs.Packed.{unpacked};
-ghost use Rattle.stretch.specs.Stretch.{Bounded, Slope, EndsAt, BeginsAt, StretchOf, Peaked, Tall, After as AfterOf, Rises, Falls, RisesFrom, FallsFrom};
+ghost use lib.ListN.{length, getD};
+ghost use Prim.Native.Nat.{suc, _+_, _*_, _/_, _≤_, _<_};
+ghost use Rattle.packed.specs.Packed.{side};
+ghost use Rattle.stretch.specs.Stretch.{Bounded, Slope, Peaked, Tall, Rises, RisesFrom, Falls, FallsFrom, unit, columnOf, Climbs, Only, FirstRises, OnRight, OnLeft, Crosses};
 
 // Columns moved to start at 0, from `from` to below `to`.
 pub struct Stretch {
@@ -12,33 +11,185 @@ pub struct Stretch {
     pub to: u32,
 }
 
-// The stretch of a row, and the places of the corners from which the edges go that cross it, one rising, one falling.
+// An edge that crosses a row: the place of the corner from which it goes, the last row that it crosses, where it crosses this row, and how
+// far it goes from row to row. Both are parts of a column, with SIDE columns added for each row, so that none is below zero.
+pub struct Edge {
+    pub place: usize,
+    pub last: u32,
+    pub position: u64,
+    pub slope: u64,
+}
+
+// The edges that cross a row: the hull lies between them.
 pub struct Crossing {
-    pub stretch: Stretch,
-    pub rising: usize,
-    pub falling: usize,
+    pub left: Edge,
+    pub right: Edge,
 }
 
 const SIDE: u32 = 16384;
 
-// Where a rising edge, from a up to b, crosses row y: one behind the last column on its left or on it.
-fn right_end(a: u32, b: u32, y: u32) -> u32
-    requires { ⌜ Slope a b y ⌝ }
-    ensures { λ r. ⌜ EndsAt a b y r ⌝ }
+// The parts of a column. A slope is rounded up to the next part, and as no edge has more than SIDE rows, what that adds never makes up the
+// least by which an edge misses a column: a part in SIDE of it.
+const UNIT: u64 = 4294967296;
+
+// How far the left side is moved: a column of which any part is left of the edge is not in the hull.
+const MOVED: u64 = 4294950912;
+
+// The edge between two corners, from a up to b, in row y.
+fn climb(place: usize, a: u32, b: u32, y: u32, moved: u64) -> Edge
+    requires { ⌜ Slope a b y × (moved < unit) ⌝ }
+    ensures { λ r. ⌜ (r .place ≡ place) × Climbs a b y moved r ⌝ }
 {
-    let passed = y - a / SIDE;
-    let rest = b / SIDE - y;
-    (a % SIDE * rest + b % SIDE * passed) / (passed + rest) + 1
+    let height = (b / SIDE - a / SIDE) as u64;
+    let growth = (b % SIDE) as u64 + 16384 * height - (a % SIDE) as u64;
+    let slope = growth * UNIT / height + 1;
+    Edge {
+        place,
+        last: b / SIDE,
+        position: (a % SIDE) as u64 * UNIT + moved + slope * (y - a / SIDE) as u64,
+        slope,
+    }
 }
 
-// Where a falling edge, from b down to a, crosses it: the first column on its left or on it.
-fn left_begin(a: u32, b: u32, y: u32) -> u32
-    requires { ⌜ Slope a b y ⌝ }
-    ensures { λ r. ⌜ BeginsAt b a y r ⌝ }
+// The same edge one row further.
+fn step(edge: Edge) -> Edge
+    requires { ⌜ edge .position + edge .slope < unit * unit ⌝ }
+    ensures { λ r. ⌜ r ≡ record { place = edge .place; last = edge .last; position = edge .position + edge .slope; slope = edge .slope } ⌝ }
 {
-    let passed = y - a / SIDE;
-    let rest = b / SIDE - y;
-    (a % SIDE * rest + b % SIDE * passed + passed + rest - 1) / (passed + rest)
+    Edge {
+        place: edge.place,
+        last: edge.last,
+        position: edge.position + edge.slope,
+        slope: edge.slope,
+    }
+}
+
+// A corner of a hull that has one row.
+fn only(corner: u32) -> Edge
+    ensures { λ r. ⌜ Only corner r ⌝ }
+{
+    Edge {
+        place: 0,
+        last: corner / SIDE,
+        position: (corner % SIDE) as u64 * UNIT,
+        slope: 0,
+    }
+}
+
+// The first rising edge: the second where the first lies in its row.
+fn first_rising(corners: &[u32], peak: usize) -> usize
+    requires { ⌜ Peaked (now corners) peak (getD (now corners) 0 0 / side) × Tall (now corners) peak ⌝ }
+    ensures { λ r. ⌜ FirstRises (now (corners .entry)) peak r ⌝ }
+{
+    if corners[0] / SIDE == corners[1] / SIDE {
+        return 1;
+    }
+    0
+}
+
+// Both sides in the first row.
+pub fn start(corners: &[u32], peak: usize) -> Crossing
+    requires { ⌜ Peaked (now corners) peak (getD (now corners) 0 0 / side) ⌝ }
+    ensures { λ r. ⌜ Crosses (now (corners .entry)) peak (getD (now (corners .entry)) 0 0 / side) r ⌝ }
+{
+    let y = corners[0] / SIDE;
+    if y == corners[peak] / SIDE {
+        return Crossing {
+            left: only(corners[0]),
+            right: only(corners[peak]),
+        };
+    }
+    let rising = first_rising(corners, peak);
+    let falling = corners.len() - 1;
+    Crossing {
+        left: climb(falling, corners[0], corners[falling], y, MOVED),
+        right: climb(rising, corners[rising], corners[rising + 1], y, 0),
+    }
+}
+
+// The rising edge that crosses row y, looked for from one that may end below it.
+fn rising(corners: &[u32], peak: usize, y: u32, near: usize) -> usize
+    requires { ⌜ Peaked (now corners) peak y × RisesFrom (now corners) peak y near ⌝ }
+    ensures { λ r. ⌜ (r < peak) × Rises (now (corners .entry)) y r ⌝ }
+{
+    let mut i = near;
+    while corners[i + 1] / SIDE < y {
+        i += 1;
+    }
+    i
+}
+
+// The falling edge that crosses it.
+fn falling(corners: &[u32], peak: usize, y: u32, near: usize) -> usize
+    requires { ⌜ Peaked (now corners) peak y × FallsFrom (now corners) peak y near ⌝ }
+    ensures { λ r. ⌜ (peak ≤ r) × (suc r < length (now (corners .entry))) × Falls (now (corners .entry)) y r (getD (now (corners .entry)) (suc r) 0) ⌝ }
+{
+    let mut i = near;
+    while corners[i] / SIDE < y {
+        i -= 1;
+    }
+    i
+}
+
+// The right side in the row after y: the same edge, or where it has ended the next one.
+fn next_right(corners: &[u32], peak: usize, y: u32, edge: Edge) -> Edge
+    requires { ⌜ Peaked (now corners) peak y × (y < getD (now corners) peak 0 / side) × OnRight (now corners) peak y edge ⌝ }
+    ensures { λ r. ⌜ OnRight (now (corners .entry)) peak (y + 1) r ⌝ }
+{
+    if y < edge.last {
+        return step(edge);
+    }
+    let i = rising(corners, peak, y + 1, edge.place);
+    climb(i, corners[i], corners[i + 1], y + 1, 0)
+}
+
+// The left side.
+fn next_left(corners: &[u32], peak: usize, y: u32, edge: Edge) -> Edge
+    requires { ⌜ Peaked (now corners) peak y × (y < getD (now corners) peak 0 / side) × OnLeft (now corners) peak y edge ⌝ }
+    ensures { λ r. ⌜ OnLeft (now (corners .entry)) peak (y + 1) r ⌝ }
+{
+    if y < edge.last {
+        return step(edge);
+    }
+    let i = falling(corners, peak, y + 1, edge.place - 1);
+    climb(i, corners[i + 1], corners[i], y + 1, MOVED)
+}
+
+// Both sides in the row after a corner's. A function of its own, so that what each row takes is short enough to be inlined.
+fn past_corner(corners: &[u32], peak: usize, y: u32, crossing: Crossing) -> Crossing
+    requires { ⌜ Peaked (now corners) peak y × (y < getD (now corners) peak 0 / side) × Crosses (now corners) peak y crossing ⌝ }
+    ensures { λ r. ⌜ Crosses (now (corners .entry)) peak (y + 1) r ⌝ }
+{
+    Crossing {
+        left: next_left(corners, peak, y, crossing.left),
+        right: next_right(corners, peak, y, crossing.right),
+    }
+}
+
+// Both sides in the row after y, if the hull has that row: all rows together take as many steps as there are rows and corners.
+pub fn next(corners: &[u32], peak: usize, y: u32, crossing: Crossing) -> Crossing
+    requires { ⌜ Peaked (now corners) peak y × Crosses (now corners) peak y crossing ⌝ }
+    ensures { λ r. ⌜ (y < getD (now (corners .entry)) peak 0 / side → Crosses (now (corners .entry)) peak (y + 1) r) ⌝ }
+{
+    if y < crossing.left.last {
+        if y < crossing.right.last {
+            return Crossing {
+                left: step(crossing.left),
+                right: step(crossing.right),
+            };
+        }
+    }
+    if corners[peak] / SIDE <= y {
+        return crossing;
+    }
+    past_corner(corners, peak, y, crossing)
+}
+
+// The column that an edge crosses.
+fn column(edge: Edge) -> u32
+    ensures { λ r. ⌜ r ≡ columnOf edge ⌝ }
+{
+    (edge.position / UNIT) as u32 % SIDE
 }
 
 // The columns from `begin` to below `end`, none if these pass each other.
@@ -54,110 +205,9 @@ fn between(begin: u32, end: u32) -> Stretch
     }
 }
 
-// The corner after that at a place; after the last comes the first.
-fn after(corners: &[u32], i: usize) -> u32
-    requires { ⌜ i < length (now corners) ⌝ }
-    ensures { λ r. ⌜ AfterOf (now (corners .entry)) i r ⌝ }
+// The columns of the row between both sides.
+pub fn across(crossing: Crossing) -> Stretch
+    ensures { λ r. ⌜ Bounded (columnOf (crossing .left)) (columnOf (crossing .right) + 1) r ⌝ }
 {
-    if i + 1 < corners.len() {
-        return corners[i + 1];
-    }
-    corners[0]
-}
-
-// The rising edge that crosses row y: looked for from the one that crossed an earlier row, or else from the first, and from the second where
-// the first lies in its row.
-fn rising_from(corners: &[u32], peak: usize, y: u32, near: usize) -> usize
-    requires { ⌜ Peaked (now corners) peak y × Tall (now corners) peak ⌝ }
-    ensures { λ r. ⌜ RisesFrom (now (corners .entry)) peak y r ⌝ }
-{
-    if near < peak {
-        if corners[near] / SIDE < y {
-            return near;
-        }
-    }
-    if corners[0] / SIDE == corners[1] / SIDE {
-        return 1;
-    }
-    0
-}
-
-fn rising(corners: &[u32], peak: usize, y: u32, near: usize) -> usize
-    requires { ⌜ Peaked (now corners) peak y × Tall (now corners) peak ⌝ }
-    ensures { λ r. ⌜ Rises (now (corners .entry)) y r ⌝ }
-{
-    let mut i = rising_from(corners, peak, y, near);
-    while corners[i + 1] / SIDE < y {
-        i += 1;
-    }
-    i
-}
-
-// The falling edge, looked for from the one that crossed an earlier row, or else from the last.
-fn falling_from(corners: &[u32], peak: usize, y: u32, near: usize) -> usize
-    requires { ⌜ Peaked (now corners) peak y × Tall (now corners) peak ⌝ }
-    ensures { λ r. ⌜ FallsFrom (now (corners .entry)) peak y r ⌝ }
-{
-    if peak <= near {
-        if near < corners.len() - 1 {
-            if corners[near + 1] / SIDE < y {
-                return near;
-            }
-        }
-    }
-    corners.len() - 1
-}
-
-fn falling(corners: &[u32], peak: usize, y: u32, near: usize) -> usize
-    requires { ⌜ Peaked (now corners) peak y × Tall (now corners) peak ⌝ }
-    ensures { λ r. ⌜ Falls (now (corners .entry)) y r × (r < length (now (corners .entry))) ⌝ }
-{
-    let mut i = falling_from(corners, peak, y, near);
-    while corners[i] / SIDE < y {
-        i -= 1;
-    }
-    i
-}
-
-// The row of a hull that has no other.
-fn only_row(corners: &[u32], peak: usize, y: u32) -> Stretch
-    requires { ⌜ Peaked (now corners) peak y × (Tall (now corners) peak → ⊥) ⌝ }
-    ensures { λ r. ⌜ StretchOf (map unpacked (now (corners .entry))) y r ⌝ }
-{
-    between(corners[0] % SIDE, corners[peak] % SIDE + 1)
-}
-
-// Before the first row: no edge is known.
-pub fn start() -> Crossing
-    ensures { λ r. ⌜ r ≡ record { stretch = record { from = 0; to = 0 }; rising = 0; falling = 0 } ⌝ }
-{
-    Crossing {
-        stretch: Stretch { from: 0, to: 0 },
-        rising: 0,
-        falling: 0,
-    }
-}
-
-// The columns of row y that lie in the hull, and the edges that cross it, to be handed on to the next row: so all rows together take as many
-// steps as there are rows and corners.
-pub fn of_next(corners: &[u32], peak: usize, y: u32, near: Crossing) -> Crossing
-    requires { ⌜ Peaked (now corners) peak y ⌝ }
-    ensures { λ r. ⌜ StretchOf (map unpacked (now (corners .entry))) y (r .stretch) ⌝ }
-{
-    if corners[0] / SIDE == corners[peak] / SIDE {
-        return Crossing {
-            stretch: only_row(corners, peak, y),
-            rising: 0,
-            falling: 0,
-        };
-    }
-    let rising = rising(corners, peak, y, near.rising);
-    let falling = falling(corners, peak, y, near.falling);
-    let end = right_end(corners[rising], corners[rising + 1], y);
-    let begin = left_begin(after(corners, falling), corners[falling], y);
-    Crossing {
-        stretch: between(begin, end),
-        rising,
-        falling,
-    }
+    between(column(crossing.left), column(crossing.right) + 1)
 }

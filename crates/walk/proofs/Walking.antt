@@ -87,6 +87,9 @@ module _ (corners : List ℕ) (h : Cornered corners) where
     pub peaked : (y : ℕ) → firstRow corners ≤ y → y ≤ lastRow corners peak → Peaked corners peak y
     peaked y u v = record { below = h .below; listed = h .listed; peaks = g; from-row = u; to-row = v }
 
+    pub peaked-first : Peaked corners peak (firstRow corners)
+    peaked-first = peaked (firstRow corners) (omega arith) (omega (arith, g .greatest 0 some))
+
     pub last-row : lastRow corners peak < side
     last-row = omega (arith, h .below peak (g .inside))
 

@@ -2,11 +2,9 @@
 use Rattle.stretch.proofs.falling.Statement.{statement}
 use Rattle.stretch.proofs.falling.Tie as tie
 use native.Mathlib.Omega.{arith}
-use denote.Ref.{now}
-use lib.ListN.{length}
 use Prim.Native.Nat.{_<_}
 use Rattle.stretch.specs.Stretch.{FallsFrom}
-use Rattle.stretch.proofs.Sides.{falls-past, falls-on, falls-here, falls-inside}
+use Rattle.stretch.proofs.Sides.{falls-past, falls-on, falls-here}
 
 abbrev Inv-loop : tie.InvT-loop
 Inv-loop corners peak y near i₀ i = FallsFrom corners peak y i
@@ -14,24 +12,18 @@ Inv-loop corners peak y near i₀ i = FallsFrom corners peak y i
 abbrev μ-loop : tie.MeasureT-loop
 μ-loop corners peak y near i₀ i = i
 
-falling-from-requires : tie.Need-falling-from-requires Inv-loop μ-loop
-falling-from-requires c κs = c .before .pre
-
 loop-holds : tie.Need-loop-holds Inv-loop μ-loop
-loop-holds c = c .falling-from .ensures
+loop-holds c = c .pre .1
 
-inside : (c : tie.At-loop Inv-loop μ-loop) → c .loop .i < length (now (c .before .before .before .args .corners))
-inside c = falls-inside _ _ _ (c .before .before .before .pre .0) _ (c .loop .inv)
-
-past : (c : tie.Then1 Inv-loop μ-loop) → let l = c .before .before in l .before .before .before .args .peak < l .loop .i
+past : (c : tie.Then1 Inv-loop μ-loop) → let l = c .before .before in l .before .args .peak < l .loop .i
 past c = let l = c .before .before in
-    falls-past _ _ _ (l .before .before .before .pre .0) _ (l .loop .inv) (c .if1 .taken)
+    falls-past _ _ _ (l .before .pre .0) _ (l .loop .inv) (c .if1 .taken)
 
 mul-if1 : tie.Need-mul-if1 Inv-loop μ-loop
-mul-if1 c = omega (arith, inside c)
+mul-if1 c = omega (arith, c .loop .inv .inside)
 
 shared-slice-read-if1 : tie.Need-shared-slice-read-if1 Inv-loop μ-loop
-shared-slice-read-if1 c = inside (c .before)
+shared-slice-read-if1 c = omega (arith, c .before .loop .inv .inside)
 
 sub-i : tie.Need-sub-i Inv-loop μ-loop
 sub-i c = omega (arith, past c)
@@ -41,11 +33,11 @@ loop-less c = omega (arith, past c)
 
 loop-again : tie.Need-loop-again Inv-loop μ-loop
 loop-again c = let l = c .before .before in
-    falls-on _ _ _ (l .before .before .before .pre .0) _ (l .loop .inv) (c .if1 .taken)
+    falls-on _ _ _ (l .before .pre .0) _ (l .loop .inv) (c .if1 .taken)
 
 returns : tie.Need-returns Inv-loop μ-loop
 returns c = let l = c .before .before in
-    (falls-here _ _ _ (l .before .before .before .pre .0) _ (l .loop .inv) (c .if1 .left), inside l)
+    (l .loop .inv .behind, l .loop .inv .inside, falls-here _ _ _ (l .before .pre .0) _ (l .loop .inv) (c .if1 .left))
 
 pub falling-spec : {M : Type 1} → statement M
 falling-spec =
@@ -53,7 +45,6 @@ falling-spec =
     (tie.spec
     Inv-loop
     μ-loop
-    falling-from-requires
     loop-holds
     mul-if1
     shared-slice-read-if1

@@ -14,14 +14,11 @@ Inv-loop corners peak y near i₀ i = RisesFrom corners peak y i
 abbrev μ-loop : tie.MeasureT-loop
 μ-loop corners peak y near i₀ i = peak - i
 
-rising-from-requires : tie.Need-rising-from-requires Inv-loop μ-loop
-rising-from-requires c κs = c .before .pre
-
 loop-holds : tie.Need-loop-holds Inv-loop μ-loop
-loop-holds c = c .rising-from .ensures
+loop-holds c = c .pre .1
 
-inside : (c : tie.At-loop Inv-loop μ-loop) → c .loop .i + 1 < length (now (c .before .before .before .args .corners))
-inside c = omega (arith, c .loop .inv .before, c .before .before .before .pre .0 .peaks .inside)
+inside : (c : tie.At-loop Inv-loop μ-loop) → c .loop .i + 1 < length (now (c .before .args .corners))
+inside c = omega (arith, c .loop .inv .before, c .before .pre .0 .peaks .inside)
 
 add-if1 : tie.Need-add-if1 Inv-loop μ-loop
 add-if1 c = omega (arith, inside c)
@@ -40,11 +37,11 @@ loop-less c = omega (arith, c .before .before .loop .inv .before)
 
 loop-again : tie.Need-loop-again Inv-loop μ-loop
 loop-again c = let l = c .before .before in
-    rises-on _ _ _ (l .before .before .before .pre .0) _ (l .loop .inv) (c .if1 .taken)
+    rises-on _ _ _ (l .before .pre .0) _ (l .loop .inv) (c .if1 .taken)
 
 returns : tie.Need-returns Inv-loop μ-loop
 returns c = let l = c .before .before in
-    rises-here _ _ _ (l .before .before .before .pre .0) _ (l .loop .inv) (c .if1 .left)
+    (l .loop .inv .before, rises-here _ _ _ (l .before .pre .0) _ (l .loop .inv) (c .if1 .left))
 
 pub rising-spec : {M : Type 1} → statement M
 rising-spec =
@@ -52,7 +49,6 @@ rising-spec =
     (tie.spec
     Inv-loop
     μ-loop
-    rising-from-requires
     loop-holds
     add-if1
     mul-if1

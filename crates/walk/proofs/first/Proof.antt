@@ -3,6 +3,7 @@ use Rattle.walk.proofs.first.Statement.{statement}
 use Rattle.walk.proofs.first.Tie as tie
 use Prim.Native.Nat.{_-_, _+_, _/_, _<_, _≤_, _*_}
 use mathlib.Core.Path.{_≡_, sym, _∙_, subst}
+use mathlib.Core.List.{map}
 use native.Mathlib.Omega.{arith}
 use borrow.Author.Needs.{needs}
 use denote.Ref.{now}
@@ -11,12 +12,14 @@ use mir.Syntax.{w32}
 use mir.Val.{toZ, ofZ}
 use Rattle.lattice.specs.Point.{points}
 use Rattle.lattice.proofs.Numbers.{points-length}
-use Rattle.packed.specs.Packed.{side, placed}
+use Rattle.packed.specs.Packed.{side, placed, unpacked}
 use Rattle.packed.proofs.Tests.{read-back, tells-yes, tells-no}
 use Rattle.order.specs.Row.{Holds, RunsTo}
 use Rattle.order.proofs.RowLaws.{ends-hold}
-use Rattle.walk.proofs.Walking.{peaked, last-row, nothing}
-use Rattle.walk.proofs.Loops.{Searched, Searching, searched-none, searched-all, searching-none, searching-more, searching-found, searching-all}
+use Rattle.stretch.specs.Stretch.{StretchOf, Peaked, Crosses}
+use Rattle.stretch.proofs.Following.{between-sides}
+use Rattle.walk.proofs.Walking.{peaked, peaked-first, last-row, nothing}
+use Rattle.walk.proofs.Loops.{Searched, Searching, searched-none, searched-all, searching-first, searching-more, searching-found, searching-all}
 
 abbrev Inv-loop : tie.InvT-loop
 Inv-loop corners list peak last crossing begin y columns end row x₀ x = Searching row columns y x
@@ -25,7 +28,7 @@ abbrev μ-loop : tie.MeasureT-loop
 μ-loop corners list peak last crossing begin y columns end row x₀ x = columns .to - x
 
 abbrev Inv-rows : tie.InvT-rows
-Inv-rows corners list peak last crossing₀ begin₀ y₀ crossing begin y = Searched corners list last y begin
+Inv-rows corners list peak last crossing₀ begin₀ y₀ crossing begin y = Searched corners list last y begin × (y ≤ last → Crosses corners peak y crossing)
 
 abbrev μ-rows : tie.MeasureT-rows
 μ-rows corners list peak last crossing₀ begin₀ y₀ crossing begin y = last + 1 - y
@@ -46,14 +49,14 @@ shared-slice-read-last : tie.Need-shared-slice-read-last Inv-loop μ-loop Inv-ro
 shared-slice-read-last c = c .before .peak .ensures .inside
 
 start-requires : tie.Need-start-requires Inv-loop μ-loop Inv-rows μ-rows
-start-requires c κs = search needs
+start-requires c κs = let p = c .before in peaked-first _ (p .before .before .before .pre .cornered) _ (p .peak .ensures)
 
 shared-slice-read-y : tie.Need-shared-slice-read-y Inv-loop μ-loop Inv-rows μ-rows
 shared-slice-read-y c = some (c .before .before .before .before)
 
 rows-holds : tie.Need-rows-holds Inv-loop μ-loop Inv-rows μ-rows
 rows-holds c = let p = c .before .before .before in
-    searched-none _ _ (p .before .before .before .pre) _ (p .peak .ensures)
+    (searched-none _ _ (p .before .before .before .pre) _ (p .peak .ensures), λ _. c .before .start .ensures)
 
 -- no row of the hull is past the range
 few : (c : tie.At-rows Inv-loop μ-loop Inv-rows μ-rows) → let p = c .before .before .before .before in getD (now (p .before .before .before .args .corners)) (p .peak .result) 0 / side < side
@@ -63,23 +66,34 @@ few c = let p = c .before .before .before .before in last-row _ (p .before .befo
 row : (c : tie.Else2 Inv-loop μ-loop Inv-rows μ-rows) → let p = c .before .before .before .before .before in c .before .rows .y ≤ getD (now (p .before .before .before .args .corners)) (p .peak .result) 0 / side
 row c = omega (arith, c .if2 .left)
 
-of-next-requires : tie.Need-of-next-requires Inv-loop μ-loop Inv-rows μ-rows
-of-next-requires c κs = let p = c .before .before .before .before .before in
-    peaked _ (p .before .before .before .pre .cornered) _ (p .peak .ensures) _ (c .before .rows .inv .between .from) (row c)
+is-row : (c : tie.Else2 Inv-loop μ-loop Inv-rows μ-rows) → let p = c .before .before .before .before .before in Peaked (now (p .before .before .before .args .corners)) (p .peak .result) (c .before .rows .y)
+is-row c = let p = c .before .before .before .before .before in
+    peaked _ (p .before .before .before .pre .cornered) _ (p .peak .ensures) _ (c .before .rows .inv .0 .between .from) (row c)
+
+across-requires : tie.Need-across-requires Inv-loop μ-loop Inv-rows μ-rows
+across-requires c κs = search needs
+
+next-requires : tie.Need-next-requires Inv-loop μ-loop Inv-rows μ-rows
+next-requires c κs = let e = c .before in (is-row e, e .before .rows .inv .1 (row e))
+
+-- the columns of the row
+stretch : (c : tie.After-next Inv-loop μ-loop Inv-rows μ-rows) → let l = c .before .before .before in
+    StretchOf (map unpacked (now (l .before .before .before .before .before .before .before .args .corners))) (l .rows .y) (c .before .across .result)
+stretch c = let e = c .before .before in between-sides _ _ _ (is-row e) _ (e .before .rows .inv .1 (row e)) _ (c .before .across .ensures)
 
 placed-requires : tie.Need-placed-requires Inv-loop μ-loop Inv-rows μ-rows
 placed-requires c κs = omega (arith, few (c .before .before .before), row (c .before .before))
 
 end-of-row-requires : tie.Need-end-of-row-requires Inv-loop μ-loop Inv-rows μ-rows
 end-of-row-requires c κs = let l = c .before .before .before .before in
-    (l .before .before .before .before .before .before .before .pre .order, l .rows .inv .leads .upto)
+    (l .before .before .before .before .before .before .before .pre .order, l .rows .inv .0 .leads .upto)
 
 -- the points of the row
 held : (c : tie.After-end-of-row Inv-loop μ-loop Inv-rows μ-rows) → let l = c .before .before .before .before .before in
     Holds (points (now (l .before .before .before .before .before .before .before .args .list))) (placed (l .rows .y)) (l .rows .begin) (c .end-of-row .result)
 held c = let l = c .before .before .before .before .before in
     let a = l .before .before .before .before .before .before .before in
-    ends-hold _ _ _ _ (a .pre .order) (l .rows .inv .leads)
+    ends-hold _ _ _ _ (a .pre .order) (l .rows .inv .0 .leads)
     (subst (λ y. RunsTo (points (now (a .args .list))) y (l .rows .begin) (c .end-of-row .result))
     (read-back (c .before .placed .result) (record { sfits = c .before .placed .ok }) ∙ c .before .placed .ensures) (c .end-of-row .ensures))
 
@@ -88,14 +102,21 @@ inside : (c : tie.After-end-of-row Inv-loop μ-loop Inv-rows μ-rows) → let l 
 inside c = let l = c .before .before .before .before .before in
     omega (arith, held c .inside, points-length (now (l .before .before .before .before .before .before .before .args .list)))
 
+-- the list has fewer bytes than the machine counts
+short : (a : tie.Start Inv-loop μ-loop Inv-rows μ-rows) → length (now (a .args .list)) < 4611686018427387904
+short a = omega arith
+
+list-short : (c : tie.After-end-of-row Inv-loop μ-loop Inv-rows μ-rows) → 2 * c .end-of-row .result < 4611686018427387904
+list-short c = omega (arith, inside c, short (c .before .before .before .before .before .before .before .before .before .before .before .before))
+
 mul-row : tie.Need-mul-row Inv-loop μ-loop Inv-rows μ-rows
-mul-row c = omega (arith, inside c, held c .rising)
+mul-row c = omega (arith, list-short c, held c .rising)
 
 mul-row-2 : tie.Need-mul-row-2 Inv-loop μ-loop Inv-rows μ-rows
-mul-row-2 c = omega (arith, inside c)
+mul-row-2 c = omega (arith, list-short c)
 
 mul-row-3 : tie.Need-mul-row-3 Inv-loop μ-loop Inv-rows μ-rows
-mul-row-3 c = omega (arith, inside c, held c .rising)
+mul-row-3 c = omega (arith, list-short c, held c .rising)
 
 sub-row : tie.Need-sub-row Inv-loop μ-loop Inv-rows μ-rows
 sub-row c = omega (arith, held c .rising)
@@ -106,11 +127,15 @@ part-row-start c = omega (arith, held c .rising)
 part-row-end : tie.Need-part-row-end Inv-loop μ-loop Inv-rows μ-rows
 part-row-end c = inside c
 
+first-column-requires : tie.Need-first-column-requires Inv-loop μ-loop Inv-rows μ-rows
+first-column-requires c κs = stretch (c .before .before .before) .rising
+
 loop-holds : tie.Need-loop-holds Inv-loop μ-loop Inv-rows μ-rows
-loop-holds c = let r = c .before in
+loop-holds c = let r = c .before .before in
     let l = r .before .before .before .before .before in
     let p = l .before .before .before .before in
-    searching-none _ _ (p .before .before .before .pre) _ (p .peak .ensures) _ _ (l .rows .inv) (row (r .before .before .before .before)) _ (r .before .before .before .of-next .ensures) _ (held r)
+    searching-first _ _ (p .before .before .before .pre) _ (p .peak .ensures) _ _ (l .rows .inv .0) (row (r .before .before .before .before)) _ (stretch (r .before .before)) _ (held r)
+    _ (c .first-column .ensures)
 
 sub-holds : tie.Need-sub-holds Inv-loop μ-loop Inv-rows μ-rows
 sub-holds c = c .before .before .before .loop .inv .from
@@ -119,7 +144,7 @@ cast-holds : tie.Need-cast-holds Inv-loop μ-loop Inv-rows μ-rows
 cast-holds c = omega arith
 
 placed-requires-2 : tie.Need-placed-requires-2 Inv-loop μ-loop Inv-rows μ-rows
-placed-requires-2 c κs = omega (arith, c .before .if3 .taken, c .before .before .before .before .before .before .before .before .of-next .ensures .few)
+placed-requires-2 c κs = omega (arith, c .before .if3 .taken, stretch (c .before .before .before .before .before .before .before .before) .few)
 
 holds-requires : tie.Need-holds-requires Inv-loop μ-loop Inv-rows μ-rows
 holds-requires c κs = search needs
@@ -129,25 +154,25 @@ is-column : (c : tie.After-placed2 Inv-loop μ-loop Inv-rows μ-rows) → toZ w3
 is-column c = read-back (c .placed2 .result) (record { sfits = c .placed2 .ok }) ∙ c .placed2 .ensures
 
 add-x : tie.Need-add-x Inv-loop μ-loop Inv-rows μ-rows
-add-x c = omega (arith, c .before .before .before .before .if3 .taken, c .before .before .before .before .before .before .before .before .before .before .before .of-next .ensures .few)
+add-x c = omega (arith, c .before .before .before .before .if3 .taken, stretch (c .before .before .before .before .before .before .before .before .before .before .before) .few)
 
 loop-less : tie.Need-loop-less Inv-loop μ-loop Inv-rows μ-rows
 loop-less c = omega (arith, c .before .before .before .before .if3 .taken)
 
 loop-again : tie.Need-loop-again Inv-loop μ-loop Inv-rows μ-rows
 loop-again c = let l = c .before .before .before .before .before .before in
-    let r = l .before .before in
+    let r = l .before .before .before in
     let o = r .before .before .before .before .before in
     let p = o .before .before .before .before in
     let h = tells-yes (c .if4 .taken) (c .before .holds .ensures) in
-    searching-more _ _ (p .before .before .before .pre) _ (p .peak .ensures) _ _ (o .rows .inv) (row (r .before .before .before .before)) _ (r .before .before .before .of-next .ensures) _ (held r)
+    searching-more _ _ (p .before .before .before .pre) _ (p .peak .ensures) _ _ (o .rows .inv .0) (row (r .before .before .before .before)) _ (stretch (r .before .before)) _ (held r)
     _ (l .loop .inv) (c .before .before .before .before .if3 .taken) (h .0, h .1 ∙ is-column (c .before .before))
 
 -- the row and the column are in the range
-small : (c : tie.Else4 Inv-loop μ-loop Inv-rows μ-rows) → let l = c .before .before .before .before .before .before in (l .before .before .before .before .before .before .before .rows .y < side) × (l .loop .x < side)
-small c = let r = c .before .before .before .before .before .before .before .before in (
+small : (c : tie.Else4 Inv-loop μ-loop Inv-rows μ-rows) → let l = c .before .before .before .before .before .before in (l .before .before .before .before .before .before .before .before .rows .y < side) × (l .loop .x < side)
+small c = let r = c .before .before .before .before .before .before .before .before .before in (
   omega (arith, few (r .before .before .before .before .before), row (r .before .before .before .before)),
-  omega (arith, c .before .before .before .before .if3 .taken, r .before .before .before .of-next .ensures .few),
+  omega (arith, c .before .before .before .before .if3 .taken, stretch (r .before .before) .few),
 )
 
 mul-result : tie.Need-mul-result Inv-loop μ-loop Inv-rows μ-rows
@@ -157,29 +182,31 @@ add-result : tie.Need-add-result Inv-loop μ-loop Inv-rows μ-rows
 add-result c = omega (arith, small c)
 
 add-y : tie.Need-add-y Inv-loop μ-loop Inv-rows μ-rows
-add-y c = let r = c .before .before .before .before in omega (arith, few (r .before .before .before .before .before), row (r .before .before .before .before))
+add-y c = let r = c .before .before .before .before .before in omega (arith, few (r .before .before .before .before .before), row (r .before .before .before .before))
 
 rows-less : tie.Need-rows-less Inv-loop μ-loop Inv-rows μ-rows
-rows-less c = let r = c .before .before .before .before in omega (arith, row (r .before .before .before .before))
+rows-less c = let r = c .before .before .before .before .before in omega (arith, row (r .before .before .before .before))
 
 rows-again : tie.Need-rows-again Inv-loop μ-loop Inv-rows μ-rows
 rows-again c = let l = c .before .before in
-    let r = l .before .before in
+    let r = l .before .before .before in
     let o = r .before .before .before .before .before in
-    let p = o .before .before .before .before in
-    searching-all _ _ (p .before .before .before .pre) _ (p .peak .ensures) _ _ (o .rows .inv) (row (r .before .before .before .before)) _ (r .before .before .before .of-next .ensures) _ (held r)
-    _ (l .loop .inv) (c .if3 .left)
+    let p = o .before .before .before .before in (
+      searching-all _ _ (p .before .before .before .pre) _ (p .peak .ensures) _ _ (o .rows .inv .0) (row (r .before .before .before .before)) _ (stretch (r .before .before)) _ (held r)
+          _ (l .loop .inv) (c .if3 .left),
+      λ u. r .before .before .next .ensures (omega (arith, u)),
+    )
 
 returns-2 : tie.Need-returns-2 Inv-loop μ-loop Inv-rows μ-rows
 returns-2 c = let p = c .before .before .before .before .before in
-    searched-all _ _ (p .before .before .before .pre) _ (p .peak .ensures) _ _ (c .before .rows .inv) (c .if2 .taken)
+    searched-all _ _ (p .before .before .before .pre) _ (p .peak .ensures) _ _ (c .before .rows .inv .0) (c .if2 .taken)
 
 returns-3 : tie.Need-returns-3 Inv-loop μ-loop Inv-rows μ-rows
 returns-3 c = let l = c .before .before .before .before .before .before in
-    let r = l .before .before in
+    let r = l .before .before .before in
     let o = r .before .before .before .before .before in
     let p = o .before .before .before .before in
-    searching-found _ _ (p .before .before .before .pre) _ (p .peak .ensures) _ _ (o .rows .inv) (row (r .before .before .before .before)) _ (r .before .before .before .of-next .ensures) _ (held r)
+    searching-found _ _ (p .before .before .before .pre) _ (p .peak .ensures) _ _ (o .rows .inv .0) (row (r .before .before .before .before)) _ (stretch (r .before .before)) _ (held r)
     _ (l .loop .inv) (c .before .before .before .before .if3 .taken)
     (λ h. tells-no (c .if4 .left) (c .before .holds .ensures) (h .0, h .1 ∙ sym (is-column (c .before .before))))
 
@@ -198,7 +225,8 @@ first-spec =
     start-requires
     shared-slice-read-y
     rows-holds
-    of-next-requires
+    across-requires
+    next-requires
     placed-requires
     end-of-row-requires
     mul-row
@@ -207,6 +235,7 @@ first-spec =
     sub-row
     part-row-start
     part-row-end
+    first-column-requires
     loop-holds
     sub-holds
     cast-holds

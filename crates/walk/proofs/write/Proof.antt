@@ -3,23 +3,25 @@ use Rattle.walk.proofs.write.Statement.{statement}
 use Rattle.walk.proofs.write.Tie as tie
 use Prim.Native.Nat.{_-_, _+_, _/_, _<_, _≤_, _*_}
 use mathlib.Core.Path.{_≡_, refl, _∙_, subst}
-use mathlib.Core.List.{[]}
+use mathlib.Core.List.{[], map}
 use native.Mathlib.Omega.{arith}
 use borrow.Author.Needs.{needs}
 use denote.Ref.{now}
 use lib.ListN.{length, getD}
 use Rattle.lattice.specs.Point.{points}
 use Rattle.lattice.proofs.Numbers.{points-length}
-use Rattle.packed.specs.Packed.{side, placed}
+use Rattle.packed.specs.Packed.{side, placed, unpacked}
 use Rattle.packed.proofs.Tests.{read-back}
 use Rattle.order.specs.Row.{Holds, RunsTo}
 use Rattle.order.proofs.RowLaws.{ends-hold}
+use Rattle.stretch.specs.Stretch.{StretchOf, Peaked, Crosses}
+use Rattle.stretch.proofs.Following.{between-sides}
 use Rattle.walk.specs.Walk.{Lacking}
-use Rattle.walk.proofs.Walking.{peaked, last-row, nothing, nothing-listed, row-is}
+use Rattle.walk.proofs.Walking.{peaked, peaked-first, last-row, nothing, nothing-listed, row-is}
 use Rattle.walk.proofs.Loops.{Written, written-none, written-length, written-used, written-room, written-more, written-all}
 
 abbrev Inv-loop : tie.InvT-loop
-Inv-loop corners list room₀ peak last crossing₀ used₀ begin₀ y₀ room crossing used begin y = Written corners list last y begin used room₀ room
+Inv-loop corners list room₀ peak last crossing₀ used₀ begin₀ y₀ room crossing used begin y = Written corners list last y begin used room₀ room × (y ≤ last → Crosses corners peak y crossing)
 
 abbrev μ-loop : tie.MeasureT-loop
 μ-loop corners list room₀ peak last crossing₀ used₀ begin₀ y₀ room crossing used begin y = last + 1 - y
@@ -41,36 +43,48 @@ shared-slice-read-last : tie.Need-shared-slice-read-last Inv-loop μ-loop
 shared-slice-read-last c = c .before .peak .ensures .inside
 
 start-requires : tie.Need-start-requires Inv-loop μ-loop
-start-requires c κs = search needs
+start-requires c κs = let p = c .before in peaked-first _ (p .before .before .before .pre .0 .cornered) _ (p .peak .ensures)
 
 shared-slice-read-y : tie.Need-shared-slice-read-y Inv-loop μ-loop
 shared-slice-read-y c = some (c .before .before .before .before)
 
 loop-holds : tie.Need-loop-holds Inv-loop μ-loop
 loop-holds c = let p = c .before .before .before in
-    written-none _ _ (p .before .before .before .pre .0) _ (p .peak .ensures) _
+    (written-none _ _ (p .before .before .before .pre .0) _ (p .peak .ensures) _, λ _. c .before .start .ensures)
 
 -- no row of the hull is past the range
 few : (c : tie.At-loop Inv-loop μ-loop) → let p = c .before .before .before .before in getD (now (p .before .before .before .args .corners)) (p .peak .result) 0 / side < side
 few c = let p = c .before .before .before .before in last-row _ (p .before .before .before .pre .0 .cornered) _ (p .peak .ensures)
 
-of-next-requires : tie.Need-of-next-requires Inv-loop μ-loop
-of-next-requires c κs = let p = c .before .before .before .before .before in
-    peaked _ (p .before .before .before .pre .0 .cornered) _ (p .peak .ensures) _ (c .before .loop .inv .between .from) (c .loop-test .taken)
+-- row y is one of the hull's
+is-row : (c : tie.In-loop Inv-loop μ-loop) → let p = c .before .before .before .before .before in Peaked (now (p .before .before .before .args .corners)) (p .peak .result) (c .before .loop .y)
+is-row c = let p = c .before .before .before .before .before in
+    peaked _ (p .before .before .before .pre .0 .cornered) _ (p .peak .ensures) _ (c .before .loop .inv .0 .between .from) (c .loop-test .taken)
+
+across-requires : tie.Need-across-requires Inv-loop μ-loop
+across-requires c κs = search needs
+
+next-requires : tie.Need-next-requires Inv-loop μ-loop
+next-requires c κs = let e = c .before in (is-row e, e .before .loop .inv .1 (e .loop-test .taken))
+
+-- its columns
+stretch : (c : tie.After-next Inv-loop μ-loop) → let l = c .before .before .before in
+    StretchOf (map unpacked (now (l .before .before .before .before .before .before .before .args .corners))) (l .loop .y) (c .before .across .result)
+stretch c = let e = c .before .before in between-sides _ _ _ (is-row e) _ (e .before .loop .inv .1 (e .loop-test .taken)) _ (c .before .across .ensures)
 
 placed-requires : tie.Need-placed-requires Inv-loop μ-loop
 placed-requires c κs = omega (arith, few (c .before .before .before), c .before .before .loop-test .taken)
 
 end-of-row-requires : tie.Need-end-of-row-requires Inv-loop μ-loop
 end-of-row-requires c κs = let l = c .before .before .before .before in
-    (l .before .before .before .before .before .before .before .pre .0 .order, l .loop .inv .leads .upto)
+    (l .before .before .before .before .before .before .before .pre .0 .order, l .loop .inv .0 .leads .upto)
 
 -- the points of the row
 held : (c : tie.After-end-of-row Inv-loop μ-loop) → let l = c .before .before .before .before .before in
     Holds (points (now (l .before .before .before .before .before .before .before .args .list))) (placed (l .loop .y)) (l .loop .begin) (c .end-of-row .result)
 held c = let l = c .before .before .before .before .before in
     let a = l .before .before .before .before .before .before .before in
-    ends-hold _ _ _ _ (a .pre .0 .order) (l .loop .inv .leads)
+    ends-hold _ _ _ _ (a .pre .0 .order) (l .loop .inv .0 .leads)
     (subst (λ y. RunsTo (points (now (a .args .list))) y (l .loop .begin) (c .end-of-row .result))
     (read-back (c .before .placed .result) (record { sfits = c .before .placed .ok }) ∙ c .before .placed .ensures) (c .end-of-row .ensures))
 
@@ -79,14 +93,21 @@ inside : (c : tie.After-end-of-row Inv-loop μ-loop) → let l = c .before .befo
 inside c = let l = c .before .before .before .before .before in
     omega (arith, held c .inside, points-length (now (l .before .before .before .before .before .before .before .args .list)))
 
+-- the list and the room have fewer bytes than the machine counts
+short : (a : tie.Start Inv-loop μ-loop) → (length (now (a .args .list)) < 4611686018427387904) × (length (now (a .args .room)) < 4611686018427387904)
+short a = (omega arith, omega arith)
+
+list-short : (c : tie.After-end-of-row Inv-loop μ-loop) → 2 * c .end-of-row .result < 4611686018427387904
+list-short c = omega (arith, inside c, short (c .before .before .before .before .before .before .before .before .before .before .before .before) .0)
+
 mul-write-row : tie.Need-mul-write-row Inv-loop μ-loop
-mul-write-row c = omega (arith, inside c, held c .rising)
+mul-write-row c = omega (arith, list-short c, held c .rising)
 
 mul-write-row-2 : tie.Need-mul-write-row-2 Inv-loop μ-loop
-mul-write-row-2 c = omega (arith, inside c)
+mul-write-row-2 c = omega (arith, list-short c)
 
 mul-write-row-3 : tie.Need-mul-write-row-3 Inv-loop μ-loop
-mul-write-row-3 c = omega (arith, inside c, held c .rising)
+mul-write-row-3 c = omega (arith, list-short c, held c .rising)
 
 sub-write-row : tie.Need-sub-write-row Inv-loop μ-loop
 sub-write-row c = omega (arith, held c .rising)
@@ -100,18 +121,21 @@ part-write-row-end c = inside c
 used : (c : tie.At-loop Inv-loop μ-loop) → 2 * c .loop .used ≤ length (c .loop .room)
 used c = let p = c .before .before .before .before in
     let a = p .before .before .before in
-    written-used _ _ (a .pre .0) _ (p .peak .ensures) _ (a .pre .1) _ _ _ _ (c .loop .inv)
+    written-used _ _ (a .pre .0) _ (p .peak .ensures) _ (a .pre .1) _ _ _ _ (c .loop .inv .0)
 
 long : (c : tie.At-loop Inv-loop μ-loop) → length (c .loop .room) ≡ length (now (c .before .before .before .before .before .before .before .args .room))
 long c = let p = c .before .before .before .before in
     let a = p .before .before .before in
-    written-length _ _ (a .pre .0) _ (p .peak .ensures) _ (a .pre .1) _ _ _ _ (c .loop .inv)
+    written-length _ _ (a .pre .0) _ (p .peak .ensures) _ (a .pre .1) _ _ _ _ (c .loop .inv .0)
+
+room-short : (c : tie.At-loop Inv-loop μ-loop) → 2 * c .loop .used < 4611686018427387904
+room-short c = omega (arith, used c, long c, short (c .before .before .before .before .before .before .before) .1)
 
 mul-write-row-4 : tie.Need-mul-write-row-4 Inv-loop μ-loop
-mul-write-row-4 c = omega (arith, used (c .before .before .before .before .before .before), long (c .before .before .before .before .before .before))
+mul-write-row-4 c = omega (arith, room-short (c .before .before .before .before .before .before))
 
 mul-write-row-5 : tie.Need-mul-write-row-5 Inv-loop μ-loop
-mul-write-row-5 c = omega (arith, used (c .before .before .before .before .before .before), long (c .before .before .before .before .before .before))
+mul-write-row-5 c = omega (arith, room-short (c .before .before .before .before .before .before))
 
 sub-write-row-2 : tie.Need-sub-write-row-2 Inv-loop μ-loop
 sub-write-row-2 c = used (c .before .before .before .before .before .before)
@@ -127,9 +151,9 @@ write-row-requires c κs = let r = c .before .before in
     let l = r .before .before .before .before .before in
     let p = l .before .before .before .before in
     let a = p .before .before .before in (
-      row-is _ _ (a .pre .0) _ _ _ _ (r .before .before .before .of-next .ensures) (held r),
+      row-is _ _ (a .pre .0) _ _ _ _ (stretch (r .before .before)) (held r),
       omega (arith, few l, r .before .before .before .before .loop-test .taken),
-      written-room _ _ (a .pre .0) _ (p .peak .ensures) _ (a .pre .1) _ _ _ _ (l .loop .inv) (r .before .before .before .before .loop-test .taken) _ (r .before .before .before .of-next .ensures) _ (held r),
+      written-room _ _ (a .pre .0) _ (p .peak .ensures) _ (a .pre .1) _ _ _ _ (l .loop .inv .0) (r .before .before .before .before .loop-test .taken) _ (stretch (r .before .before)) _ (held r),
     )
 
 -- one row more is written
@@ -138,15 +162,15 @@ next c = let r = c .before .before .before .before in
     let l = r .before .before .before .before .before in
     let p = l .before .before .before .before in
     let a = p .before .before .before in
-    written-more _ _ (a .pre .0) _ (p .peak .ensures) _ (a .pre .1) _ _ _ _ (l .loop .inv) (r .before .before .before .before .loop-test .taken) _ (r .before .before .before .of-next .ensures) _ (held r) _ _ (c .before .write-row .ensures)
+    (written-more _ _ (a .pre .0) _ (p .peak .ensures) _ (a .pre .1) _ _ _ _ (l .loop .inv .0) (r .before .before .before .before .loop-test .taken) _ (stretch (r .before .before)) _ (held r) _ _ (c .before .write-row .ensures), λ u. r .before .before .next .ensures (omega (arith, u)))
 
 add-used : tie.Need-add-used Inv-loop μ-loop
 add-used c = let p = c .before .before .before .before .before .before .before .before .before .before .before .before .before in
     let a = p .before .before .before in
     omega (
       arith,
-      written-used _ _ (a .pre .0) _ (p .peak .ensures) _ (a .pre .1) _ _ _ _ (next c),
-      written-length _ _ (a .pre .0) _ (p .peak .ensures) _ (a .pre .1) _ _ _ _ (next c),
+      written-used _ _ (a .pre .0) _ (p .peak .ensures) _ (a .pre .1) _ _ _ _ (next c .0),
+      written-length _ _ (a .pre .0) _ (p .peak .ensures) _ (a .pre .1) _ _ _ _ (next c .0),
     )
 
 add-y : tie.Need-add-y Inv-loop μ-loop
@@ -164,7 +188,7 @@ same-length c = long (c .before)
 returns-2 : tie.Need-returns-2 Inv-loop μ-loop
 returns-2 c = let p = c .before .before .before .before .before in
     let a = p .before .before .before in
-    written-all _ _ (a .pre .0) _ (p .peak .ensures) _ (a .pre .1) _ _ _ _ (c .before .loop .inv) (omega (arith, c .loop-test .left))
+    written-all _ _ (a .pre .0) _ (p .peak .ensures) _ (a .pre .1) _ _ _ _ (c .before .loop .inv .0) (omega (arith, c .loop-test .left))
 
 pub write-spec : {M : Type 1} → statement M
 write-spec =
@@ -179,7 +203,8 @@ write-spec =
     start-requires
     shared-slice-read-y
     loop-holds
-    of-next-requires
+    across-requires
+    next-requires
     placed-requires
     end-of-row-requires
     mul-write-row
