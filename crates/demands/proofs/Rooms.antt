@@ -5,7 +5,7 @@ use Prim.Native.Nat.{ℕ, _*_}
 use lib.ListN.{length, take, drop}
 use lib.Seq.{take-at}
 use lib.IntN.{ℤ}
-use Rattle.lattice.specs.Point.{Point, points}
+use Rattle.lattice.specs.Point.{Point}
 use Rattle.lattice.specs.Room.{numbers, holding}
 use Rattle.lattice.proofs.Numbers.{numbers-length}
 use Rattle.lattice.proofs.Rooms.{holding-rest}

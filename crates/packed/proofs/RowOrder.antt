@@ -1,7 +1,7 @@
 -- Row order is the order of packed points, packing and unpacking undo one another, and what is unpacked is in range. Assumes nothing.
 use mathlib.Core.Path.{_≡_, sym, _∙_, ap, subst₂}
 use mathlib.Core.List.{[], _∷_}
-use Prim.Native.Nat.{ℕ, _+_, _/_, _%_, _≤_, _<_}
+use Prim.Native.Nat.{ℕ, _/_, _%_, _≤_, _<_}
 use native.Mathlib.Omega.{arith}
 use lib.Dec.{ltb→lt, le→leb, lt→ltb}
 use lib.IntN.{ℤ, pos, natAbs, _-ℤ_}
@@ -10,7 +10,7 @@ use Rattle.lattice.specs.Point.{Point, least, InRange, Before, row, column}
 use Rattle.lattice.proofs.Lists.{either}
 use Rattle.lattice.proofs.HalfPlane.{point-equal}
 use Rattle.lattice.proofs.Places.{lt-or-le}
-use Rattle.packed.specs.Packed.{offset, side, cells, moved, placed, packed, unpacked}
+use Rattle.packed.specs.Packed.{side, cells, moved, placed, packed, unpacked}
 use Rattle.packed.proofs.Border.{moved-is, moved-small}
 
 -- ---- one coordinate

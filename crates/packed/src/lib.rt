@@ -2,7 +2,7 @@
 ghost use mathlib.Core.Path.{_≡_};
 ghost use Prim.Native.Nat.{_<_};
 ghost use lib.IntN.{pos};
-ghost use lib.Signed.{_≤ℤ_, ltZ, leZ};
+ghost use lib.Signed.{_≤ℤ_, ltZ};
 ghost use Rattle.lattice.specs.Point.{least, greatest, InRange};
 ghost use Rattle.lattice.specs.Hull.{turn as turnOf};
 ghost use Rattle.packed.specs.Packed.{Tells, Within, side, cells, moved as movedOf, placed as placedOf, packed as packedOf, unpacked};

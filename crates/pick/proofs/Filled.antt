@@ -3,8 +3,8 @@
 use mathlib.Core.Path.{_≡_, refl, sym, subst}
 use mathlib.Core.Logic.{inl, inr}
 use mathlib.Core.List.{List, [], _∷_}
-use lib.IntN.{ℤ, pos, negsuc, _*ℤ_, _-ℤ_}
-use Rattle.whole.proofs.Whole.{quote, _≤ᶻ_, NonNegative, Positive, gap≤, gap<, _⊞_, _⊠_, _⋆≡_, _∗≡_, _∔_, linear≤, linear<, linear≡, Sign, below, nought, above, sign, le-or-lt, le-of-lt, le-of-equal, le-transitive, le-negated, antisymmetric, nonnegative-factor, zero-product, difference-zero}
+use lib.IntN.{ℤ, _*ℤ_, _-ℤ_}
+use Rattle.whole.proofs.Whole.{quote, _≤ᶻ_, NonNegative, Positive, gap≤, gap<, _⊞_, _⊠_, _⋆≡_, _∗≡_, linear≤, linear<, linear≡, Sign, below, nought, above, sign, le-or-lt, le-of-lt, le-of-equal, le-transitive, le-negated, antisymmetric, nonnegative-factor, zero-product, difference-zero}
 use Rattle.lattice.specs.Point.{Point, In, All}
 use Rattle.lattice.specs.Hull.{turn, Between, InHull, member, segment, Of}
 use Rattle.lattice.proofs.Turn.{coordinates}

@@ -11,7 +11,7 @@ use Rattle.lattice.proofs.Lists.{either}
 use Rattle.lattice.proofs.Places.{lt-or-le}
 use Rattle.lattice.proofs.CornerLists.{corner-list-shape}
 use Rattle.lattice.proofs.Polygon.{InsideEnds, polygon-by-ends}
-use Rattle.packed.specs.Packed.{side, cells, unpacked}
+use Rattle.packed.specs.Packed.{side, unpacked}
 use Rattle.packed.proofs.RowOrder.{unpacked-before}
 use Rattle.packed.proofs.KeyLaws.{unpacked-in, in-unpacked}
 use Rattle.stretch.specs.Stretch.{cell, Peaked}

@@ -6,7 +6,6 @@ ghost use Rattle.lattice.specs.Point.{InRange, points, point, All, Pairs, Befor
 ghost use Rattle.packed.specs.Packed.{Tells, side};
 ghost use Rattle.order.specs.Row.{RunsTo};
 ghost use Rattle.stretch.specs.Stretch.{Peak};
-ghost use Rattle.packed.specs.Corners.{HullOf};
 ghost use Rattle.walk.specs.Walk.{Walked, Lacking, FirstOf, Takes, Puts, Later, columnAt, RowPoints, Gap, Across, InRow, Neighbour, FirstColumn};
 use stretch::Stretch;
 

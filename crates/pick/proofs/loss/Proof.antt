@@ -2,8 +2,6 @@
 use native.Mathlib.Omega.{arith}
 use borrow.Author.Needs.{needs}
 use mathlib.Core.Path.{refl}
-use Prim.Native.Nat.{_*_, _/_, _%_, _<_}
-use Rattle.packed.specs.Packed.{side, cells}
 use Rattle.pick.proofs.Sums.{column-times-row}
 use Rattle.pick.proofs.loss.Statement.{statement}
 use Rattle.pick.proofs.loss.Tie as tie
