@@ -11,7 +11,7 @@ use Rattle.lattice.specs.Point.{InRange, most, points, All, Lists}
 use Rattle.lattice.specs.Hull.{Of}
 use Rattle.lattice.specs.Refusal.{accepted, Gives, AtPoint, Repeats, Odd, OutOfRange, listRows, _when_else_}
 use Rattle.lattice.proofs.Refusals.{within-range}
-use Rattle.lattice.proofs.Tables.{whole-first, whole-never}
+use Rattle.lattice.proofs.Tables.{whole-first, whole-never, none-out-of-range}
 use Rattle.packed.specs.Packed.{unpacked}
 use Rattle.sort.specs.Words.{keyOf, Marked}
 use Rattle.order.specs.declared.Ordered.{Ordered}
@@ -19,6 +19,9 @@ use Rattle.order.specs.First.{FirstOutside}
 use Rattle.order.specs.Keys.{Below, WordsOf, Arranged, Finds}
 use Rattle.order.proofs.Passing.{first-here, never-below}
 use Rattle.order.proofs.Sorting.{words-marked, first-repeat, no-repeat, keys-lists, keys-below}
+
+pub all-in-range : (list : List ℤ) (r : ℕ) → FirstOutside list r → length (points list) ≤ r → All InRange (points list)
+all-in-range list r f l = within-range (points list) (never-below _ (AtPoint OutOfRange (points list)) r f (λ j p. p .0) l)
 
 module _ (list : List ℤ) (keys : List ℕ) where
   pub finds-odd : Odd list → Finds list (record { number = 1; place = 0; points = 0 }) keys
@@ -28,62 +31,59 @@ module _ (list : List ℤ) (keys : List ℕ) where
     pub finds-many : most < length (points list) → Finds list (record { number = 2; place = 0; points = 0 }) keys
     finds-many many = record { gives = inr (whole-never even, inl (refl, whole-first many)); result = refl }
 
-    module _ (few : length (points list) ≤ most) (outside : ℕ) (f : FirstOutside list outside) where
+    module _ (few : length (points list) ≤ most) where
       -- what rows 3 and 4 give is what the table gives
       behind : (n i : ℕ) → Gives (3 when AtPoint OutOfRange (points list) else 4 when Repeats (points list) else accepted) n i
           → Gives (listRows list accepted) n i
       behind n i g = inr (whole-never even, inr (whole-never (λ h. omega (arith, h, few)), g))
 
-      pub finds-outside : outside < length (points list) → Finds list (record { number = 3; place = outside; points = 0 }) keys
-      finds-outside h = record {
-        gives = behind 3 outside (inl (refl, first-here _ (AtPoint OutOfRange (points list)) outside f h));
+      pub finds-outside : (r : ℕ) → FirstOutside list r → r < length (points list) → Finds list (record { number = 3; place = r; points = 0 }) keys
+      finds-outside r f h = record {
+        gives = behind 3 r (inl (refl, first-here _ (AtPoint OutOfRange (points list)) r f h));
         result = refl;
       }
 
-      module _ (all : length (points list) ≤ outside) where
-        inside : (j : ℕ) → AtPoint OutOfRange (points list) j → ⊥
-        inside = never-below _ (AtPoint OutOfRange (points list)) outside f (λ j p. p .0) all
+      module _ (range : All InRange (points list)) (words : List ℕ) (m : WordsOf list words) (n : ℕ) (full : n ≡ length (points list))
+          (room : n ≤ length words) where
+        small : n ≤ 4096
+        small = omega (arith, full, few)
 
-        pub range : All InRange (points list)
-        range = within-range (points list) inside
+        pub marks : Marked (take n words)
+        marks = words-marked list range words m n full small room
 
-        module _ (words : List ℕ) (m : WordsOf list words) (n : ℕ) (full : n ≡ length (points list)) (room : n ≤ length words) where
-          small : n ≤ 4096
-          small = omega (arith, full, few)
+        module _ (place : ℕ) (a : Arranged (take n words) place keys) where
+          inside : (j : ℕ) → AtPoint OutOfRange (points list) j → ⊥
+          inside = none-out-of-range (points list) range
 
-          pub marks : Marked (take n words)
-          marks = words-marked list range words m n full small room
+          pub finds-repeat : place < 4096 → Finds list (record { number = 4; place = place; points = 0 }) keys
+          finds-repeat h = record {
+            gives = behind 4 place (inr (
+              inside,
+              inl (
+                refl,
+                first-repeat list range words m n full small room (a .front) (a .sorts) place (a .repeat) h,
+              ),
+            ));
+            result = refl;
+          }
 
-          module _ (place : ℕ) (a : Arranged (take n words) place keys) where
-            pub finds-repeat : place < 4096 → Finds list (record { number = 4; place = place; points = 0 }) keys
-            finds-repeat h = record {
-              gives = behind 4 place (inr (
-                inside,
-                inl (
-                  refl,
-                  first-repeat list range words m n full small room (a .front) (a .sorts) place (a .repeat) h,
-                ),
-              ));
-              result = refl;
-            }
+          front-keys : take n keys ≡ map keyOf (a .front)
+          front-keys = subst (λ m. take m keys ≡ map keyOf (a .front)) (length-take-le n words room) (a .stand)
 
-            front-keys : take n keys ≡ map keyOf (a .front)
-            front-keys = subst (λ m. take m keys ≡ map keyOf (a .front)) (length-take-le n words room) (a .stand)
-
-            pub finds-all : 4096 ≤ place → n ≤ length keys → Finds list (record { number = 0; place = 0; points = n }) keys
-            finds-all h wide = record {
-              gives = behind 0 0 (inr (inside, inr (no-repeat list range words m n full small room (a .front) (a .sorts) place (a .repeat) h, (refl, refl))));
-              result = (
-                full,
-                wide,
-                record {
-                  below = subst Below (sym front-keys)
-                      (keys-below list range words m n full small room (a .front) (a .sorts) place (a .repeat) h);
-                  lists = subst (λ l. Lists (Of (points list)) (map unpacked l)) (sym front-keys)
-                      (keys-lists list range words m n full small room (a .front) (a .sorts) place (a .repeat) h);
-                },
-              );
-            }
+          pub finds-all : 4096 ≤ place → n ≤ length keys → Finds list (record { number = 0; place = 0; points = n }) keys
+          finds-all h wide = record {
+            gives = behind 0 0 (inr (inside, inr (no-repeat list range words m n full small room (a .front) (a .sorts) place (a .repeat) h, (refl, refl))));
+            result = (
+              full,
+              wide,
+              record {
+                below = subst Below (sym front-keys)
+                    (keys-below list range words m n full small room (a .front) (a .sorts) place (a .repeat) h);
+                lists = subst (λ l. Lists (Of (points list)) (map unpacked l)) (sym front-keys)
+                    (keys-lists list range words m n full small room (a .front) (a .sorts) place (a .repeat) h);
+              },
+            );
+          }
 
 -- the same of an equal answer
 pub finds-as : {list : List ℤ} {keys : List ℕ} {a b : Ordered} → a ≡ b → Finds list b keys → Finds list a keys

@@ -8,11 +8,11 @@ use denote.Ref.{now}
 use lib.ListN.{length, take}
 use lib.Seq.{length-take-le}
 use lib.IntN.{ℤ}
-use Rattle.lattice.specs.Point.{most, points}
+use Rattle.lattice.specs.Point.{InRange, most, points, All}
 use Rattle.lattice.specs.Refusal.{Odd}
 use Rattle.lattice.proofs.Numbers.{points-length}
 use Rattle.order.specs.Keys.{Measured}
-use Rattle.order.proofs.Finding.{finds-odd, finds-many, finds-outside, range, marks, finds-repeat, finds-all, finds-as}
+use Rattle.order.proofs.Finding.{all-in-range, finds-odd, finds-many, finds-outside, marks, finds-repeat, finds-all, finds-as}
 use Rattle.order.proofs.find.Statement.{statement}
 use Rattle.order.proofs.find.Tie as tie
 
@@ -62,8 +62,8 @@ past c = c .before .before
 abbrev start : tie.Else3 → tie.Start
 start c = past c .before .before .before .before .before
 
-inside : (c : tie.Else3) → length (points (list-of (past c))) ≤ c .before .first-outside .result
-inside c = omega (arith, points-length (list-of (past c)), c .if3 .left)
+range : (c : tie.Else3) → All InRange (points (list-of (past c)))
+range c = all-in-range (list-of (past c)) _ (c .before .first-outside .ensures) (omega (arith, points-length (list-of (past c)), c .if3 .left))
 
 abbrev count : tie.Else3 → ℕ
 count c = length (list-of (past c)) / 2
@@ -80,10 +80,7 @@ space c = (
 )
 
 mark-requires : tie.Need-mark-requires
-mark-requires c κs = let e = c .before in (
-  range (list-of (past e)) [] (even (past e)) (few (past e)) _ (e .before .first-outside .ensures) (inside e),
-  omega (arith, full e, space e .0),
-)
+mark-requires c κs = (range (c .before), omega (arith, full (c .before), space (c .before) .0))
 
 -- all points are marked: as many words are handed on as there are points
 abbrev tested : tie.After-mark → tie.Else3
@@ -107,7 +104,7 @@ slice-aggregate-arrange c = sym (long (c .before .before .before))
 arrange-requires : tie.Need-arrange-requires
 arrange-requires c κs = let m = c .before .before .before .before .before in
     let e = tested m in (
-      marks (list-of (past e)) [] (even (past e)) (few (past e)) _ (e .before .first-outside .ensures) (inside e) (words-of m) (m .mark .ensures) _ (full e) (wide m),
+      marks (list-of (past e)) [] (even (past e)) (few (past e)) (range e) (words-of m) (m .mark .ensures) _ (full e) (wide m),
       omega (arith, long m, space e .1),
       omega (arith, long m, space e .2),
     )
@@ -129,8 +126,7 @@ returns-4 c = let a = c .before .before .before .before .before .before .before 
     let m = a .before .before .before .before .before .before in
     let e = tested m in
     finds-as (c .declined4 .ensures)
-    (finds-repeat _ _ (even (past e)) (few (past e)) _ (e .before .first-outside .ensures) (inside e) (words-of m) (m .mark .ensures) _ (full e) (wide m) _ (a .arrange .ensures)
-    (c .before .if4 .taken))
+    (finds-repeat _ _ (even (past e)) (few (past e)) (range e) (words-of m) (m .mark .ensures) _ (full e) (wide m) _ (a .arrange .ensures) (c .before .if4 .taken))
 
 same-length-4 : tie.Need-same-length-4
 same-length-4 c = search needs
@@ -145,8 +141,8 @@ returns-5 : tie.Need-returns-5
 returns-5 c = let a = c .before .before .before .before .before .before .before in
     let m = a .before .before .before .before .before .before in
     let e = tested m in
-    finds-all _ _ (even (past e)) (few (past e)) _ (e .before .first-outside .ensures) (inside e) (words-of m) (m .mark .ensures) _ (full e) (wide m) _ (a .arrange .ensures)
-    (c .if4 .left) (omega (arith, space e .2, a .arrange .kept))
+    finds-all _ _ (even (past e)) (few (past e)) (range e) (words-of m) (m .mark .ensures) _ (full e) (wide m) _ (a .arrange .ensures) (c .if4 .left)
+    (omega (arith, space e .2, a .arrange .kept))
 
 pub find-spec : {M : Type 1} → statement M
 find-spec =
