@@ -1,21 +1,27 @@
 -- What each way out of `find` tells: the refusals 1 to 4 of a list, or its points in row order. Assumes nothing.
-use mathlib.Core.Path.{_≡_, refl, sym, _∙_, ap, subst}
+use mathlib.Core.Path.{_≡_, refl, sym, subst}
 use mathlib.Core.Logic.{inl, inr}
 use mathlib.Core.List.{List, map}
 use Prim.Native.Nat.{ℕ, _≤_, _<_}
 use native.Mathlib.Omega.{arith}
-use lib.ListN.{length, getD, take, drop, length-map}
-use lib.Seq.{take-at, length-take-le}
+use lib.ListN.{length, take}
+use lib.Seq.{length-take-le}
 use lib.IntN.{ℤ}
-use Rattle.lattice.specs.Point.{most, points, Lists}
+use Rattle.lattice.specs.Point.{InRange, most, points, All, Lists}
 use Rattle.lattice.specs.Hull.{Of}
 use Rattle.lattice.specs.Refusal.{accepted, Gives, AtPoint, Repeats, Odd, OutOfRange, listRows, _when_else_}
-use Rattle.lattice.proofs.Tables.{whole-first, whole-never}
-use Rattle.packed.specs.Packed.{cells, unpacked}
+use Rattle.lattice.proofs.Refusals.{within-range}
+use Rattle.lattice.proofs.Tables.{whole-first, whole-never, none-out-of-range}
+use Rattle.packed.specs.Packed.{unpacked}
 use Rattle.sort.specs.Words.{keyOf, Marked}
 use Rattle.order.specs.declared.Ordered.{Ordered}
-use Rattle.order.specs.Keys.{MarkedTo, Arranged, Finds}
+use Rattle.order.specs.First.{FirstOutside}
+use Rattle.order.specs.Keys.{Below, WordsOf, Arranged, Finds}
+use Rattle.order.proofs.Passing.{first-here, never-below}
 use Rattle.order.proofs.Sorting.{words-marked, first-repeat, no-repeat, keys-lists, keys-below}
+
+pub all-in-range : (list : List ℤ) (r : ℕ) → FirstOutside list r → length (points list) ≤ r → All InRange (points list)
+all-in-range list r f l = within-range (points list) (never-below _ (AtPoint OutOfRange (points list)) r f (λ j p. p .0) l)
 
 module _ (list : List ℤ) (keys : List ℕ) where
   pub finds-odd : Odd list → Finds list (record { number = 1; place = 0; points = 0 }) keys
@@ -25,66 +31,56 @@ module _ (list : List ℤ) (keys : List ℕ) where
     pub finds-many : most < length (points list) → Finds list (record { number = 2; place = 0; points = 0 }) keys
     finds-many many = record { gives = inr (whole-never even, inl (refl, whole-first many)); result = refl }
 
-    module _ (few : length (points list) ≤ most) (words : List ℕ) (r : ℕ) (m : MarkedTo list words r) where
+    module _ (few : length (points list) ≤ most) where
       -- what rows 3 and 4 give is what the table gives
       behind : (n i : ℕ) → Gives (3 when AtPoint OutOfRange (points list) else 4 when Repeats (points list) else accepted) n i
           → Gives (listRows list accepted) n i
       behind n i g = inr (whole-never even, inr (whole-never (λ h. omega (arith, h, few)), g))
 
-      pub finds-outside : r < length (points list) → Finds list (record { number = 3; place = r; points = 0 }) keys
-      finds-outside h = record {
-        gives = behind 3 r (inl (refl, record { here = (h, m .stops h); earlier = λ j k e. e .1 (m .range j k) }));
+      pub finds-outside : (r : ℕ) → FirstOutside list r → r < length (points list) → Finds list (record { number = 3; place = r; points = 0 }) keys
+      finds-outside r f h = record {
+        gives = behind 3 r (inl (refl, first-here _ (AtPoint OutOfRange (points list)) r f h));
         result = refl;
       }
 
-      module _ (all : length (points list) ≤ r) (fits : length (points list) ≤ length words) where
-        full : r ≡ length (points list)
-        full = omega (arith, m .upto, all)
-
-        small : r ≤ 4096
+      module _ (range : All InRange (points list)) (words : List ℕ) (m : WordsOf list words) (n : ℕ) (full : n ≡ length (points list))
+          (room : n ≤ length words) where
+        small : n ≤ 4096
         small = omega (arith, full, few)
 
-        room : r ≤ length words
-        room = omega (arith, full, fits)
+        pub marks : Marked (take n words)
+        marks = words-marked list range words m n full small room
 
-        inside : (j : ℕ) → AtPoint OutOfRange (points list) j → ⊥
-        inside j e = e .1 (m .range j (omega (arith, e .0, full)))
+        module _ (place : ℕ) (a : Arranged (take n words) place keys) where
+          inside : (j : ℕ) → AtPoint OutOfRange (points list) j → ⊥
+          inside = none-out-of-range (points list) range
 
-        pub marks : Marked (take r words)
-        marks = words-marked list words r m full small room
-
-        module _ (keys₀ : List ℕ) (place : ℕ) (a : Arranged (take r words) keys₀ place keys) where
           pub finds-repeat : place < 4096 → Finds list (record { number = 4; place = place; points = 0 }) keys
           finds-repeat h = record {
             gives = behind 4 place (inr (
               inside,
               inl (
                 refl,
-                first-repeat list words r m full small room (a .front) (a .sorts) place (a .repeat) h,
+                first-repeat list range words m n full small room (a .front) (a .sorts) place (a .repeat) h,
               ),
             ));
             result = refl;
           }
 
-          front-long : length (a .front) ≡ r
-          front-long = a .sorts .same .long ∙ length-take-le r words room
+          front-keys : take n keys ≡ map keyOf (a .front)
+          front-keys = subst (λ m. take m keys ≡ map keyOf (a .front)) (length-take-le n words room) (a .stand)
 
-          front-keys : 4096 ≤ place → take r keys ≡ map keyOf (a .front)
-          front-keys h =
-              ap (take r) (a .stand h)
-              ∙ take-at (map keyOf (a .front)) (drop (length (a .front)) keys₀) r (length-map (a .front) keyOf ∙ front-long)
-
-          pub finds-all : 4096 ≤ place → r ≤ length keys → Finds list (record { number = 0; place = 0; points = r }) keys
+          pub finds-all : 4096 ≤ place → n ≤ length keys → Finds list (record { number = 0; place = 0; points = n }) keys
           finds-all h wide = record {
-            gives = behind 0 0 (inr (inside, inr (no-repeat list words r m full small room (a .front) (a .sorts) place (a .repeat) h, (refl, refl))));
+            gives = behind 0 0 (inr (inside, inr (no-repeat list range words m n full small room (a .front) (a .sorts) place (a .repeat) h, (refl, refl))));
             result = (
               full,
               wide,
               record {
-                below = subst (λ l. (i : ℕ) → i < length l → getD l i 0 < cells) (sym (front-keys h))
-                    (keys-below list words r m full small room (a .front) (a .sorts) place (a .repeat) h);
-                lists = subst (λ l. Lists (Of (points list)) (map unpacked l)) (sym (front-keys h))
-                    (keys-lists list words r m full small room (a .front) (a .sorts) place (a .repeat) h);
+                below = subst Below (sym front-keys)
+                    (keys-below list range words m n full small room (a .front) (a .sorts) place (a .repeat) h);
+                lists = subst (λ l. Lists (Of (points list)) (map unpacked l)) (sym front-keys)
+                    (keys-lists list range words m n full small room (a .front) (a .sorts) place (a .repeat) h);
               },
             );
           }

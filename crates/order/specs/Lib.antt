@@ -2,3 +2,4 @@
 pub mod Order
 pub mod Row
 pub mod Keys
+pub mod First

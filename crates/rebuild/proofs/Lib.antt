@@ -1,5 +1,5 @@
 -- Laws of what is looked at, and from there to what Rebuild promises.
-pub mod Passing
+pub mod Going
 pub mod Outlining
 pub mod Following
 pub mod Straying

@@ -22,6 +22,7 @@ use Rattle.packed.proofs.RowOrder.{placed-grows, placed-injective, unpacked-inj
 use Rattle.packed.proofs.KeyLaws.{unpacked-in, in-unpacked}
 use Rattle.packed.proofs.Tests.{tells-as}
 use Rattle.order.specs.Row.{RunsTo}
+use Rattle.order.proofs.Passing.{Passing, passing-none, passing-stops, passing-ends}
 use Rattle.stretch.specs.Stretch.{cell, Within, Peak, StretchOf}
 use Rattle.stretch.specs.declared.Stretch.{Stretch}
 use Rattle.stretch.proofs.Counting.{is-cell-before, is-before-cell}
@@ -30,7 +31,6 @@ use Rattle.walk.proofs.Walking.{nothing, some, firstRow, lastRow, in-rows}
 use Rattle.walk.proofs.Rows.{rows-rise, from-next}
 use Rattle.walk.proofs.Loops.{Between, between-first, between-next}
 use Rattle.rebuild.specs.Looking.{MisplacedAt, InOneRow, EndMisplaced, FirstMisplaced}
-use Rattle.rebuild.proofs.Passing.{Passing, passing-none, passing-stops, passing-ends}
 
 -- ---- a corner
 module _ (outline : List ℕ) (k i : ℕ) where

@@ -11,10 +11,11 @@ use Rattle.lattice.specs.Hull.{CornerList}
 use Rattle.lattice.specs.Refusal.{Table, accepted, _when_else_, Gives, AtPoint, Strays, Odd, OutOfRange, Misplaced, rebuildRows}
 use Rattle.lattice.proofs.Tables.{whole-first, whole-never}
 use Rattle.packed.specs.Packed.{unpacked}
+use Rattle.order.specs.First.{FirstBelow}
+use Rattle.order.proofs.Passing.{first-here, never-below}
 use Rattle.rebuild.specs.declared.Rebuilt.{Rebuilt}
 use Rattle.rebuild.specs.Rebuild.{inputRows}
-use Rattle.rebuild.specs.Looking.{Looks, FirstBelow}
-use Rattle.rebuild.proofs.Passing.{first-here, never-below}
+use Rattle.rebuild.specs.Looking.{Looks}
 
 -- a number and a place, and no points
 abbrev pub answer : ℕ → ℕ → Rebuilt

@@ -16,8 +16,8 @@ use Rattle.lattice.proofs.Decide.{yes-or-no, before?}
 use Rattle.lattice.proofs.RowOrder.{row-order-by-neighbours}
 use Rattle.packed.specs.Packed.{Tells, packed}
 use Rattle.packed.proofs.RowOrder.{packed-before, before-packed}
+use Rattle.order.specs.First.{FirstBelow}
 use Rattle.order.proofs.InOrder.{Rising}
-use Rattle.rebuild.specs.Looking.{FirstBelow}
 
 -- the last of the points that rise is the one before
 below-strays : (l : List Point) (least i : ℕ) → Rising l least i → i < length l → InRange (point l i) → packed (point l i) < least

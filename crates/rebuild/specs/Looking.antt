@@ -8,9 +8,10 @@ use lib.IntN.{ℤ, pos}
 use lib.Signed.{_<ℤ_}
 use Rattle.lattice.specs.Point.{Point, InRange, most, points, point, In, All, Before}
 use Rattle.lattice.specs.Hull.{turn}
-use Rattle.lattice.specs.Refusal.{Table, accepted, Gives, AtPoint, Strays, OutOfRange, Misplaced, rebuildRows}
+use Rattle.lattice.specs.Refusal.{Table, accepted, Gives, AtPoint, Strays, Misplaced, rebuildRows}
 use Rattle.packed.specs.Packed.{side, packed, unpacked}
 use Rattle.order.specs.Keys.{Below}
+use Rattle.order.specs.First.{FirstBelow}
 use Rattle.stretch.specs.Stretch.{StretchOf}
 use Rattle.stretch.specs.declared.Stretch.{Stretch}
 use Rattle.packed.specs.Corners.{Cornered}
@@ -37,22 +38,13 @@ pub record Looks (t : Table) (answer : Rebuilt) : Type 0 where
   pub gives : Gives t (answer .number) (answer .place)
   pub uncounted : answer .points ≡ 0
 
--- the first place below n at which P holds; n if there is none
-pub record FirstBelow (n : ℕ) (P : ℕ → Type 0) (r : ℕ) : Type 0 where
-  pub upto : r ≤ n
-  pub earlier : (j : ℕ) → j < r → P j → ⊥
-  pub here : r < n → P r
-
 -- the first place from `begin` on at which P holds
 pub record FirstFrom (begin : ℕ) (P : ℕ → Type 0) (r : ℕ) : Type 0 where
   pub from : begin ≤ r
   pub earlier : (j : ℕ) → begin ≤ j → j < r → P j → ⊥
   pub here : P r
 
--- "first such point", "first that doesn't follow the one before", "first such point"
-abbrev pub FirstOutside : List ℤ → ℕ → Type 0
-FirstOutside list = FirstBelow (length (points list)) (AtPoint OutOfRange (points list))
-
+-- "first that doesn't follow the one before", "first such point"
 abbrev pub FirstStray : List ℤ → ℕ → Type 0
 FirstStray missing = FirstBelow (length (points missing)) (Strays (points missing))
 

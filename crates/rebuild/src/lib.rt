@@ -13,7 +13,7 @@ ghost use Rattle.stretch.specs.Stretch.{StretchOf, Peak};
 ghost use Rattle.packed.specs.Corners.{Cornered};
 ghost use Rattle.walk.specs.Walk.{Walked};
 ghost use Rattle.rebuild.specs.Rebuild.{inputRows, RebuildPromise};
-ghost use Rattle.rebuild.specs.Looking.{Taken, Behind, Resulting, Looks, FirstFrom, FirstOutside, FirstStray, FirstMisplaced, MisplacedAt, Apart, Sought, InOneRow, EndMisplaced, Outlines, Follows};
+ghost use Rattle.rebuild.specs.Looking.{Taken, Behind, Resulting, Looks, FirstFrom, FirstStray, FirstMisplaced, MisplacedAt, Apart, Sought, InOneRow, EndMisplaced, Outlines, Follows};
 use stretch::Stretch;
 
 // What Rebuild answers: number and place, 0 and 0 if accepted, and how many points there are.
@@ -37,59 +37,6 @@ fn key_at(list: &[i32], i: usize) -> u32
     let x = list[2 * i];
     let y = list[2 * i + 1];
     packed::packed(x, y)
-}
-
-// Whether both tests passed: a loop that keeps its answer so has no branch, and goes through several points at once.
-fn both(a: bool, b: bool) -> bool
-    ensures { λ r. ⌜ Tells r ((a ≡ true) × (b ≡ true)) ⌝ }
-{
-    if b {
-        return a;
-    }
-    false
-}
-
-// Whether all points are in range.
-fn all_inside(list: &[i32]) -> bool
-    ensures { λ r. ⌜ Tells r (All InRange (points (now (list .entry)))) ⌝ }
-{
-    let n = list.len() / 2;
-    let mut good = true;
-    let mut i: usize = 0;
-    while i < n {
-        let x = list[2 * i];
-        let y = list[2 * i + 1];
-        good = both(good, packed::in_range(x, y));
-        i += 1;
-    }
-    good
-}
-
-// The first point that is out of range; how many points there are if none is. Where none is, the test of all tells so sooner.
-fn first_outside(list: &[i32]) -> usize
-    ensures { λ r. ⌜ FirstOutside (now (list .entry)) r ⌝ }
-{
-    if all_inside(list) {
-        return list.len() / 2;
-    }
-    find_outside(list)
-}
-
-fn find_outside(list: &[i32]) -> usize
-    ensures { λ r. ⌜ FirstOutside (now (list .entry)) r ⌝ }
-{
-    let n = list.len() / 2;
-    let mut i: usize = 0;
-    while i < n {
-        let x = list[2 * i];
-        let y = list[2 * i + 1];
-        if packed::in_range(x, y) {
-            i += 1;
-        } else {
-            return i;
-        }
-    }
-    i
 }
 
 // The corners, packed, in the order of their list.
@@ -152,7 +99,7 @@ fn all_follow(missing: &[i32]) -> bool
     let mut good = true;
     let mut i: usize = 0;
     while i + 1 < n {
-        good = both(good, key_at(missing, i) < key_at(missing, i + 1));
+        good = order::both(good, key_at(missing, i) < key_at(missing, i + 1));
         i += 1;
     }
     good
@@ -387,11 +334,11 @@ fn refusal_of_lists(corners: &[i32], missing: &[i32]) -> Rebuilt
     if packed::MOST < n {
         return declined(2, 0);
     }
-    let corner = first_outside(corners);
+    let corner = order::first_outside(corners);
     if corner < n {
         return declined(3, corner);
     }
-    let point = first_outside(missing);
+    let point = order::first_outside(missing);
     if point < missing.len() / 2 {
         return declined(3, point);
     }

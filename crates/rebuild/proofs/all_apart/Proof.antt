@@ -7,8 +7,8 @@ use native.Mathlib.Omega.{arith}
 use lib.ListN.{length}
 use Rattle.lattice.specs.Point.{points, In}
 use Rattle.packed.proofs.Tests.{tells-no}
+use Rattle.order.proofs.Passing.{Passing, passing-none, passing-more}
 use Rattle.rebuild.specs.Looking.{at}
-use Rattle.rebuild.proofs.Passing.{Passing, passing-none, passing-more}
 
 abbrev Inv-loop : tie.InvT-loop
 Inv-loop outline missing i₀ i = Passing (length outline) (λ j. In (at outline j) (points missing)) i

@@ -14,7 +14,7 @@ use Rattle.lattice.proofs.Numbers.{points-length}
 use Rattle.lattice.proofs.Places.{all-place, pairs-place}
 use Rattle.packed.specs.Packed.{Tells, packed}
 use Rattle.packed.proofs.Tests.{tells-as}
-use Rattle.rebuild.proofs.Passing.{Passed, passed-none, tells-more}
+use Rattle.order.proofs.Passing.{Passed, passed-none, tells-more}
 use Rattle.rebuild.proofs.Straying.{follow-pairs, told-before}
 
 abbrev Inv-loop : tie.InvT-loop

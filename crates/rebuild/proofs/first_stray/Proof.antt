@@ -9,7 +9,7 @@ use Rattle.lattice.specs.Point.{points}
 use Rattle.lattice.specs.Refusal.{Strays}
 use Rattle.lattice.proofs.Numbers.{points-length}
 use Rattle.packed.proofs.Tests.{tells-yes}
-use Rattle.rebuild.proofs.Passing.{passing-all}
+use Rattle.order.proofs.Passing.{passing-all}
 use Rattle.rebuild.proofs.Straying.{none-stray}
 
 all-follow-requires : tie.Need-all-follow-requires

@@ -4,7 +4,7 @@ use mathlib.Core.Path.{_≡_}
 use native.Mathlib.Omega.{arith}
 use denote.Ref.{now}
 use lib.ListN.{length, getD}
-use Rattle.rebuild.proofs.Passing.{Passing, passing-none, passing-more}
+use Rattle.order.proofs.Passing.{Passing, passing-none, passing-more}
 use Rattle.rebuild.proofs.Misplacing.{corner-here, no-corner}
 use Rattle.rebuild.proofs.is_corner.Statement.{statement}
 use Rattle.rebuild.proofs.is_corner.Tie as tie

@@ -15,11 +15,12 @@ use Rattle.lattice.proofs.Numbers.{points-length}
 use Rattle.packed.specs.Packed.{side, placed, unpacked}
 use Rattle.packed.proofs.Tests.{read-back, tells-yes, tells-no}
 use Rattle.order.specs.Row.{RunsTo}
+use Rattle.order.proofs.Passing.{passing-all}
 use Rattle.stretch.specs.Stretch.{StretchOf, Peaked, Crosses}
 use Rattle.stretch.proofs.Following.{between-sides}
 use Rattle.walk.proofs.Walking.{some, peaked, peaked-first, last-row}
 use Rattle.rebuild.specs.Looking.{MisplacedAt, Apart, InOneRow}
-use Rattle.rebuild.proofs.Passing.{passing-then, passing-all}
+use Rattle.rebuild.proofs.Going.{passing-then}
 use Rattle.rebuild.proofs.Misplacing.{Looking, looking-none, one-row, looking-more, looking-all}
 
 abbrev Inv-loop : tie.InvT-loop

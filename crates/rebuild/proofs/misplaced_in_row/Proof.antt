@@ -10,7 +10,7 @@ use Rattle.packed.specs.Packed.{side, unpacked}
 use Rattle.packed.proofs.Tests.{tells-yes, tells-no}
 use Rattle.stretch.specs.Stretch.{StretchOf}
 use Rattle.rebuild.specs.Looking.{MisplacedAt}
-use Rattle.rebuild.proofs.Passing.{Going, going-none, going-more, going-stops, going-ends}
+use Rattle.rebuild.proofs.Going.{Going, going-none, going-more, going-stops, going-ends}
 use Rattle.rebuild.proofs.Seeking.{apart-at}
 use Rattle.rebuild.proofs.Misplacing.{range-at, stretch-at, looked-at, misplaced-at}
 

@@ -1,6 +1,6 @@
--- `rebuild::all_inside` meets its contract: a turn of the loop looks at one point more. Assumes nothing.
-use Rattle.rebuild.proofs.all_inside.Statement.{statement}
-use Rattle.rebuild.proofs.all_inside.Tie as tie
+-- `order::all_inside` meets its contract: a turn of the loop looks at one point more. Assumes nothing.
+use Rattle.order.proofs.all_inside.Statement.{statement}
+use Rattle.order.proofs.all_inside.Tie as tie
 use Prim.Native.Nat.{_<_, _≤_, _-_}
 use mathlib.Core.Path.{_≡_, sym, subst}
 use native.Mathlib.Omega.{arith}
@@ -13,7 +13,7 @@ use Rattle.lattice.proofs.Places.{all-place, place-all}
 use Rattle.packed.specs.Packed.{Tells}
 use Rattle.packed.proofs.Tests.{tells-as}
 use Rattle.packed.proofs.Reading.{read-at, read-point}
-use Rattle.rebuild.proofs.Passing.{Passed, passed-none, tells-more}
+use Rattle.order.proofs.Passing.{Passed, passed-none, tells-more}
 
 abbrev Inv-loop : tie.InvT-loop
 Inv-loop list n good₀ i₀ good i = (i ≤ length (points list)) × Tells good (Passed (λ j. InRange (point (points list) j)) i)

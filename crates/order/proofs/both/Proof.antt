@@ -1,10 +1,10 @@
--- `rebuild::both` meets its contract: the first answer if the second is yes. Assumes nothing.
-use Rattle.rebuild.proofs.both.Statement.{statement}
-use Rattle.rebuild.proofs.both.Tie as tie
+-- `order::both` meets its contract: the first answer if the second is yes. Assumes nothing.
+use Rattle.order.proofs.both.Statement.{statement}
+use Rattle.order.proofs.both.Tie as tie
 use mathlib.Core.Path.{_≡_}
 use Prim.Native.Nat.{ℕ}
 use native.Mathlib.Omega.{arith}
-use Rattle.rebuild.proofs.Passing.{tells-both}
+use Rattle.order.proofs.Passing.{tells-both}
 
 returns : tie.Need-returns
 returns c = tells-both (c .before .args .a) (c .before .args .b) (c .if1 .taken)

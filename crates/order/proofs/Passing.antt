@@ -1,16 +1,14 @@
--- Laws of a loop that looks for the first place with a fault, and what the place it comes to tells. Assumes nothing.
-use mathlib.Core.Path.{_≡_, refl, subst}
-use mathlib.Core.Logic.{_⊎_}
+-- Laws of a loop that looks for the first place with a fault, of the place it comes to, and of a loop that goes on behind a fault. Assumes nothing.
+use mathlib.Core.Path.{_≡_, refl}
 use mathlib.Core.Bool.{Bool, true, false}
 use Prim.Native.Nat.{ℕ, _+_, _≤_, _<_}
 use native.Mathlib.Omega.{arith}
 use borrow.Author.Count.{below-more}
 use Rattle.lattice.specs.Refusal.{First}
-use Rattle.lattice.proofs.Lists.{either}
-use Rattle.lattice.proofs.Places.{lt-or-le, nowhere}
+use Rattle.lattice.proofs.Places.{nowhere}
 use Rattle.packed.specs.Packed.{Tells}
 use Rattle.packed.proofs.Tests.{tells-yes}
-use Rattle.rebuild.specs.Looking.{FirstBelow, FirstFrom}
+use Rattle.order.specs.First.{FirstBelow}
 
 -- no fault at the first i places
 pub record Passing (n : ℕ) (P : ℕ → Type 0) (i : ℕ) : Type 0 where
@@ -34,14 +32,6 @@ module _ (n : ℕ) (P : ℕ → Type 0) where
         never : i < n → ⊥
         never k = omega arith
 
-    -- behind the first i places, the first fault from there on
-    pub passing-then : (r : ℕ) → r < n → FirstFrom i P r → FirstBelow n P r
-    passing-then r l f = record {
-      upto = omega arith;
-      earlier = λ j k. either (lt-or-le j i) (λ u. h .clear j u) (λ u. f .earlier j u k);
-      here = λ k. f .here;
-    }
-
   pub passing-all : (r : ℕ) → r ≡ n → ((j : ℕ) → j < n → P j → ⊥) → FirstBelow n P r
   passing-all r e f = record { upto = omega arith; earlier = λ j l. f j (omega arith); here = λ l. absurd (omega arith) }
 
@@ -52,37 +42,6 @@ module _ (n : ℕ) (P : ℕ → Type 0) where
 
     pub never-below : ((j : ℕ) → P j → j < n) → n ≤ r → (j : ℕ) → P j → ⊥
     never-below bound l j p = f .earlier j (omega (arith, bound j p)) p
-
--- ---- a loop from one place to another, of which one has a fault
--- no fault from `begin` to i
-pub record Going (begin last : ℕ) (P : ℕ → Type 0) (i : ℕ) : Type 0 where
-  pub from : begin ≤ i
-  pub to : i ≤ last
-  pub clear : (j : ℕ) → begin ≤ j → j < i → P j → ⊥
-
-module _ (begin last : ℕ) (P : ℕ → Type 0) where
-  pub going-none : begin ≤ last → Going begin last P begin
-  going-none l = record { from = omega arith; to = l; clear = λ j u v. absurd (omega arith) }
-
-  module _ (i : ℕ) (h : Going begin last P i) where
-    pub going-more : i < last → (P i → ⊥) → Going begin last P (i + 1)
-    going-more l c = record {
-      from = omega (arith, h .from);
-      to = omega arith;
-      clear = λ j u v. below-more (λ n. begin ≤ n → P n → ⊥) i (λ n a b. h .clear n b a) (λ _. c) j v u;
-    }
-
-    pub going-stops : P i → FirstFrom begin P i
-    going-stops p = record { from = h .from; earlier = h .clear; here = p }
-
-    pub going-ends : last ≤ i → P begin ⊎ P last → FirstFrom begin P i
-    going-ends l p = record { from = h .from; earlier = h .clear; here = either p at-begin at-last }
-      where
-        at-begin : P begin → P i
-        at-begin q = either (lt-or-le begin i) (λ u. absurd (h .clear begin (omega arith) u q)) (λ u. let e : begin ≡ i = omega (arith, h .from) in subst P e q)
-
-        at-last : P last → P i
-        at-last q = let e : last ≡ i = omega (arith, h .to) in subst P e q
 
 -- ---- loops that go on behind a fault, and keep whether there was one
 module _ (P : ℕ → Type 0) where

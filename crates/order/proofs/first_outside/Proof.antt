@@ -1,7 +1,7 @@
--- `rebuild::first_outside` meets its contract: no point is out of range, or the loop finds the first. Assumes nothing.
+-- `order::first_outside` meets its contract: no point is out of range, or the loop finds the first. Assumes nothing.
 use borrow.Author.Needs.{needs}
-use Rattle.rebuild.proofs.first_outside.Statement.{statement}
-use Rattle.rebuild.proofs.first_outside.Tie as tie
+use Rattle.order.proofs.first_outside.Statement.{statement}
+use Rattle.order.proofs.first_outside.Tie as tie
 use mathlib.Core.Path.{sym}
 use denote.Ref.{now}
 use lib.ListN.{length}
@@ -10,7 +10,7 @@ use Rattle.lattice.specs.Refusal.{AtPoint, OutOfRange}
 use Rattle.lattice.proofs.Numbers.{points-length}
 use Rattle.lattice.proofs.Places.{all-place}
 use Rattle.packed.proofs.Tests.{tells-yes}
-use Rattle.rebuild.proofs.Passing.{passing-all}
+use Rattle.order.proofs.Passing.{passing-all}
 
 all-inside-requires : tie.Need-all-inside-requires
 all-inside-requires c κs = search needs

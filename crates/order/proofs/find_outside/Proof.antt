@@ -1,4 +1,4 @@
--- `rebuild::find_outside` meets its contract: a turn of the loop passes one point more. Assumes nothing.
+-- `order::find_outside` meets its contract: a turn of the loop passes one point more. Assumes nothing.
 use Prim.Native.Nat.{ℕ, _<_, _-_}
 use mathlib.Core.Path.{_≡_, sym, subst}
 use mathlib.Core.List.{List}
@@ -11,9 +11,9 @@ use Rattle.lattice.specs.Refusal.{AtPoint, OutOfRange}
 use Rattle.lattice.proofs.Numbers.{points-length}
 use Rattle.packed.proofs.Tests.{tells-yes, tells-no}
 use Rattle.packed.proofs.Reading.{read-at, read-point}
-use Rattle.rebuild.proofs.Passing.{Passing, passing-none, passing-more, passing-stops, passing-ends}
-use Rattle.rebuild.proofs.find_outside.Statement.{statement}
-use Rattle.rebuild.proofs.find_outside.Tie as tie
+use Rattle.order.proofs.Passing.{Passing, passing-none, passing-more, passing-stops, passing-ends}
+use Rattle.order.proofs.find_outside.Statement.{statement}
+use Rattle.order.proofs.find_outside.Tie as tie
 
 abbrev Inv-loop : tie.InvT-loop
 Inv-loop list n i₀ i = Passing (length (points list)) (AtPoint OutOfRange (points list)) i
