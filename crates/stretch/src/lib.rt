@@ -122,7 +122,7 @@ fn rising(corners: &[u32], peak: usize, y: u32, near: usize) -> usize
 // The falling edge that crosses it.
 fn falling(corners: &[u32], peak: usize, y: u32, near: usize) -> usize
     requires { ⌜ Peaked (now corners) peak y × FallsFrom (now corners) peak y near ⌝ }
-    ensures { λ r. ⌜ (peak ≤ r) × (suc r < length (now (corners .entry))) × Falls (now (corners .entry)) y r (getD (now (corners .entry)) (suc r) 0) ⌝ }
+    ensures { λ r. ⌜ (peak ≤ r) × (suc r < length (now (corners .entry))) × Falls (now (corners .entry)) y r (getD (now (corners .entry)) (r + 1) 0) ⌝ }
 {
     let mut i = near;
     while corners[i] / SIDE < y {
@@ -155,7 +155,7 @@ fn next_left(corners: &[u32], peak: usize, y: u32, edge: Edge) -> Edge
     climb(i, corners[i + 1], corners[i], y + 1, MOVED)
 }
 
-// Both sides in the row after a corner's. A function of its own, so that what each row takes is short enough to be inlined.
+// Both sides in the row after a corner's. A function of its own, and called twice, so that it is not inlined and what most rows take is.
 fn past_corner(corners: &[u32], peak: usize, y: u32, crossing: Crossing) -> Crossing
     requires { ⌜ Peaked (now corners) peak y × (y < getD (now corners) peak 0 / side) × Crosses (now corners) peak y crossing ⌝ }
     ensures { λ r. ⌜ Crosses (now (corners .entry)) peak (y + 1) r ⌝ }
@@ -178,6 +178,7 @@ pub fn next(corners: &[u32], peak: usize, y: u32, crossing: Crossing) -> Crossin
                 right: step(crossing.right),
             };
         }
+        return past_corner(corners, peak, y, crossing);
     }
     if corners[peak] / SIDE <= y {
         return crossing;

@@ -4,23 +4,22 @@ use mathlib.Core.List.{List, [], _++_, map}
 use Prim.Native.Nat.{ℕ, _+_, _-_, _*_, _/_, _%_, _≤_, _<_}
 use native.Mathlib.Omega.{arith}
 use borrow.Rule.Slice.PartMut.{putMid}
-use lib.ListN.{length, getD, length-append}
+use lib.ListN.{length, getD}
 use lib.IntN.{ℤ}
 use lib.Signed.{_≤ℤ_, _<ℤ_}
 use Rattle.lattice.specs.Point.{Point, points, point, In, Lists}
 use Rattle.lattice.proofs.Lists.{either}
 use Rattle.lattice.proofs.Places.{lt-or-le, nowhere, all-place}
-use Rattle.lattice.proofs.SameMembers.{lists-same}
 use Rattle.packed.specs.Packed.{side, cells, placed, unpacked}
 use Rattle.packed.proofs.RowOrder.{placed-injective, placed-order}
 use Rattle.order.specs.Row.{Holds, LeadsTo}
 use Rattle.stretch.specs.Stretch.{cell, StretchOf, Peak}
 use Rattle.stretch.specs.declared.Stretch.{Stretch}
-use Rattle.packed.specs.Corners.{HullOf, Cornered}
+use Rattle.packed.specs.Corners.{HullOf}
 use Rattle.walk.specs.Walk.{Walked, Lacking, FirstOf, Takes, Puts, Gap}
 use Rattle.walk.proofs.Rows.{at-cell, part, row-next, holds-leads}
 use Rattle.walk.proofs.Lending.{rest, puts-length, puts-used, rest-takes, puts-then}
-use Rattle.walk.proofs.Gaps.{Held, Passed, passed-none, passed-held, held-in, gap-here, columns-listed}
+use Rattle.walk.proofs.Gaps.{Held, Passed, passed-none, passed-held, held-in, gap-here}
 use Rattle.walk.proofs.Walking.{firstRow, lastRow, some, Upto, upto-none, upto-all, upto-more, in-rows, last-row, row-is, gap-lacking, lacking-gap, gaps-exist}
 
 -- row y is one of the hull's, or the one after the last

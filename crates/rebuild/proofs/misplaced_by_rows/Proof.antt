@@ -130,9 +130,11 @@ loop-again c = let m = c .before in
     let e = m .before in
     let o = e .before .before .before in
     let l = o .before .before .before in
-    let a = l .before .before .before .before .before .before in
-    (looking-more _ (missing-of l) (a .pre .0) _ (a .pre .1) _ _ (l .loop .inv .0) (a .pre .3) (a .pre .2) _ (runs e) _ (stretch (e .before .before)) (o .before .before .loop-test .taken)
-    (tells-no (c .if2 .left) (m .ends-misplaced .ensures)), λ u. e .before .before .next .ensures (omega (arith, u)))
+    let a = l .before .before .before .before .before .before in (
+      looking-more _ (missing-of l) (a .pre .0) _ (a .pre .1) _ _ (l .loop .inv .0) (a .pre .3) (a .pre .2) _ (runs e) _ (stretch (e .before .before)) (o .before .before .loop-test .taken)
+          (tells-no (c .if2 .left) (m .ends-misplaced .ensures)),
+      λ u. e .before .before .next .ensures (omega (arith, u)),
+    )
 
 returns-3 : tie.Need-returns-3 Inv-loop μ-loop
 returns-3 c = let l = c .before in

@@ -2,12 +2,8 @@
 use borrow.Author.Needs.{needs}
 use Rattle.stretch.proofs.next.Statement.{statement}
 use Rattle.stretch.proofs.next.Tie as tie
-use Prim.Native.Nat.{_+_}
 use native.Mathlib.Omega.{arith}
-use denote.Ref.{now}
-use mathlib.Core.Path.{sym, subst}
-use Rattle.stretch.specs.Stretch.{OnLeft, OnRight}
-use Rattle.stretch.proofs.Following.{left-small, left-on, right-small, right-on}
+use Rattle.stretch.proofs.Following.{left-below, left-small, left-on, right-small, right-on}
 
 step-requires : tie.Need-step-requires
 step-requires c κs = let a = c .before .before .before .before .before in left-small _ _ _ (a .pre .0) _ (a .pre .1 .left) (c .before .before .if1 .taken)
@@ -19,9 +15,16 @@ returns : tie.Need-returns
 returns c = let t = c .before .before in
     let a = t .before .before .before .before .before in
     λ l. record {
-      left = subst (OnLeft (now (a .args .corners)) (a .args .peak) (a .args .y + 1)) (sym (c .before .step .ensures)) (left-on _ _ _ (a .pre .0) _ (a .pre .1 .left) (t .before .before .if1 .taken));
-      right = subst (OnRight (now (a .args .corners)) (a .args .peak) (a .args .y + 1)) (sym (c .step2 .ensures)) (right-on _ _ _ (a .pre .0) _ (a .pre .1 .right) (t .if2 .taken));
+      left = left-on _ _ _ (a .pre .0) _ (a .pre .1 .left) (t .before .before .if1 .taken) _ (c .before .step .ensures);
+      right = right-on _ _ _ (a .pre .0) _ (a .pre .1 .right) (t .if2 .taken) _ (c .step2 .ensures);
     }
+
+past-corner-requires : tie.Need-past-corner-requires
+past-corner-requires c κs = let a = c .before .before .before .before .before in
+    (a .pre .0, left-below _ _ _ (a .pre .0) _ (a .pre .1 .left) (c .before .before .if1 .taken), a .pre .1)
+
+returns-2 : tie.Need-returns-2
+returns-2 c = search needs
 
 mul-if3 : tie.Need-mul-if3
 mul-if3 c = search needs
@@ -29,14 +32,14 @@ mul-if3 c = search needs
 shared-slice-read-if3 : tie.Need-shared-slice-read-if3
 shared-slice-read-if3 c = search needs
 
-returns-2 : tie.Need-returns-2
-returns-2 c = λ l. absurd (omega (arith, l, c .if3 .taken))
-
-past-corner-requires : tie.Need-past-corner-requires
-past-corner-requires c κs = search needs
-
 returns-3 : tie.Need-returns-3
-returns-3 c = search needs
+returns-3 c = λ l. absurd (omega (arith, l, c .if3 .taken))
+
+past-corner-requires-2 : tie.Need-past-corner-requires-2
+past-corner-requires-2 c κs = search needs
+
+returns-4 : tie.Need-returns-4
+returns-4 c = search needs
 
 pub next-spec : {M : Type 1} → statement M
 next-spec =
@@ -45,8 +48,10 @@ next-spec =
     step-requires
     step-requires-2
     returns
+    past-corner-requires
+    returns-2
     mul-if3
     shared-slice-read-if3
-    returns-2
-    past-corner-requires
-    returns-3)
+    returns-3
+    past-corner-requires-2
+    returns-4)
