@@ -11,8 +11,8 @@ use lib.ListN.{length, take, drop}
 use lib.IntN.{ℤ}
 use Rattle.lattice.specs.Point.{Point, InRange, most, points, All, Pairs, Before, Lists}
 use Rattle.lattice.proofs.Rooms.{holding-points}
-use Rattle.bitmap.specs.declared.Header.{Header}
-use Rattle.bitmap.specs.declared.Header.the-variants.{Sound, Bad}
+use Rattle.bitmap.specs.declared.header.Header.{Header}
+use Rattle.bitmap.specs.declared.header.Header.the-variants.{Sound, Bad}
 use Rattle.bitmap.specs.declared.Picture.{Picture}
 use Rattle.bitmap.specs.Bytes.{whiteSpace}
 use Rattle.bitmap.specs.Header.{headerOf}

@@ -3,7 +3,7 @@ use mathlib.Core.Path.{_≡_, refl, sym, _∙_, ap}
 use mathlib.Core.Bool.{true, false}
 use Prim.Native.Nat.{ℕ, suc, _+_, _-_, _≤_, _<_}
 use native.Mathlib.Omega.{arith}
-use Rattle.bitmap.specs.declared.Count.the-variants as counts
+use Rattle.bitmap.specs.declared.pixels.Count.the-variants as counts
 use Rattle.bitmap.specs.Pixels.{Raster, pixels, fault, onto}
 use Rattle.bitmap.specs.Steps.{blacks, counted}
 

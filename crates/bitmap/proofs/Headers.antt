@@ -10,9 +10,9 @@ use lib.Dec.{leb}
 use lib.ListN.{length}
 use Rattle.lattice.proofs.Lists.{either}
 use Rattle.lattice.proofs.Places.{lt-or-le}
-use Rattle.bitmap.specs.declared.Header.{Header}
-use Rattle.bitmap.specs.declared.Header.the-variants.{Sound, Bad}
-use Rattle.bitmap.specs.declared.Run.{Run}
+use Rattle.bitmap.specs.declared.header.Header.{Header}
+use Rattle.bitmap.specs.declared.header.Header.the-variants.{Sound, Bad}
+use Rattle.bitmap.specs.declared.header.Run.{Run}
 use Rattle.bitmap.specs.Bytes.{whiteSpace, digit, Placed, readAt}
 use Rattle.bitmap.specs.Header.{starts, behind, size, greatestSize, inSize, placeIn, unless, broken, sizeThen, afterHeight, afterWidth, headerOf}
 use Rattle.bitmap.specs.Steps.{Settled, Leads, RunAt}

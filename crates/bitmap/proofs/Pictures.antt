@@ -12,8 +12,8 @@ use lib.IntN.{ℤ}
 use Rattle.lattice.specs.Point.{most}
 use Rattle.lattice.proofs.Lists.{either}
 use Rattle.lattice.proofs.Places.{lt-or-le}
-use Rattle.bitmap.specs.declared.Count.the-variants as counts
-use Rattle.bitmap.specs.declared.Header.the-variants.{Sound, Bad}
+use Rattle.bitmap.specs.declared.pixels.Count.the-variants as counts
+use Rattle.bitmap.specs.declared.header.Header.the-variants.{Sound, Bad}
 use Rattle.bitmap.specs.declared.Picture.{Picture}
 use Rattle.bitmap.specs.Header.{greatestSize, headerOf}
 use Rattle.bitmap.specs.Pixels.{Raster, pixels, fault, plainAt, black, blackIn}

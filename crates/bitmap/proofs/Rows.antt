@@ -3,7 +3,7 @@ use mathlib.Core.Path.{_≡_, sym, _∙_, ap}
 use Prim.Native.Nat.{ℕ, _+_, _*_, _-_, _/_, _%_, _≤_, _<_}
 use native.Mathlib.Nat.{div-mul-le-self, div-eq-of-lt-le, mod-eq-sub-div-mul}
 use native.Mathlib.Omega.{arith}
-use Rattle.bitmap.specs.declared.Row.{Row}
+use Rattle.bitmap.specs.declared.black.Row.{Row}
 use Rattle.bitmap.specs.Steps.{Begun, RowOf}
 
 pub begun-first : (width : ℕ) → Begun width 0 (record { y = 0; first = 0 })

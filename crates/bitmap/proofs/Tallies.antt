@@ -9,8 +9,8 @@ use borrow.Author.Tests.{eqb-true}
 use lib.ListN.{length, getD, drop, length-drop}
 use lib.Seq.{drop-cons, drop-drop}
 use mir.Val.{boolByte}
-use Rattle.bitmap.specs.declared.Count.the-variants as counts
-use Rattle.bitmap.specs.declared.Tally.{Tally}
+use Rattle.bitmap.specs.declared.pixels.Count.the-variants as counts
+use Rattle.bitmap.specs.declared.pixels.Tally.{Tally}
 use Rattle.bitmap.specs.Bytes.{whiteSpace}
 use Rattle.bitmap.specs.Pixels.{Raster, pixels, plain, plainAt}
 use Rattle.bitmap.specs.Steps.{badByte, blackByte, whiteByte, number, Numbers, Tallied, whites, WhiteThen, Passes, counted}

@@ -4,8 +4,8 @@ use mathlib.Core.List.{List, [], _∷_}
 use Prim.Native.Nat.{ℕ, suc, _+_, _*_, _-_}
 use lib.Dec.{leb}
 use lib.ListN.{length}
-use Rattle.bitmap.specs.declared.Header.{Header}
-use Rattle.bitmap.specs.declared.Header.the-variants.{Sound, Bad}
+use Rattle.bitmap.specs.declared.header.Header.{Header}
+use Rattle.bitmap.specs.declared.header.Header.the-variants.{Sound, Bad}
 use Rattle.bitmap.specs.Bytes.{whiteSpace, digit, Placed, readAt}
 
 -- whether the next byte passes a test; what is left behind all next bytes that pass it

@@ -8,8 +8,8 @@ use lib.ListN.{length, getD}
 use lib.IntN.{ℤ}
 use Rattle.lattice.specs.Point.{Point, most}
 use Rattle.lattice.specs.Room.{holding}
-use Rattle.bitmap.specs.declared.Header.{Header}
-use Rattle.bitmap.specs.declared.Header.the-variants.{Sound, Bad}
+use Rattle.bitmap.specs.declared.header.Header.{Header}
+use Rattle.bitmap.specs.declared.header.Header.the-variants.{Sound, Bad}
 use Rattle.bitmap.specs.declared.Picture.{Picture}
 use Rattle.bitmap.specs.Header.{headerOf}
 use Rattle.bitmap.specs.Pixels.{Raster, pixels, fault, plainAt, black}

@@ -8,18 +8,18 @@ use lib.ListN.{length, getD, drop}
 use lib.IntN.{ℤ}
 use mir.Val.{boolByte}
 use Rattle.lattice.specs.Point.{most}
-use Rattle.bitmap.specs.declared.Run.{Run}
-use Rattle.bitmap.specs.declared.Part.{Part}
-use Rattle.bitmap.specs.declared.Part.the-variants as parts
-use Rattle.bitmap.specs.declared.Header.{Header}
-use Rattle.bitmap.specs.declared.Header.the-variants.{Bad}
-use Rattle.bitmap.specs.declared.Pixel.{Pixel}
-use Rattle.bitmap.specs.declared.Pixel.the-variants.{Black, White, Fault}
-use Rattle.bitmap.specs.declared.Count.{Count}
-use Rattle.bitmap.specs.declared.Count.the-variants as counts
-use Rattle.bitmap.specs.declared.Tally.{Tally}
-use Rattle.bitmap.specs.declared.Rest.{Rest}
-use Rattle.bitmap.specs.declared.Row.{Row}
+use Rattle.bitmap.specs.declared.header.Run.{Run}
+use Rattle.bitmap.specs.declared.header.Part.{Part}
+use Rattle.bitmap.specs.declared.header.Part.the-variants as parts
+use Rattle.bitmap.specs.declared.header.Header.{Header}
+use Rattle.bitmap.specs.declared.header.Header.the-variants.{Bad}
+use Rattle.bitmap.specs.declared.pixels.Pixel.{Pixel}
+use Rattle.bitmap.specs.declared.pixels.Pixel.the-variants.{Black, White, Fault}
+use Rattle.bitmap.specs.declared.pixels.Count.{Count}
+use Rattle.bitmap.specs.declared.pixels.Count.the-variants as counts
+use Rattle.bitmap.specs.declared.pixels.Tally.{Tally}
+use Rattle.bitmap.specs.declared.pixels.Rest.{Rest}
+use Rattle.bitmap.specs.declared.black.Row.{Row}
 use Rattle.bitmap.specs.Bytes.{whiteSpace, hash, digit, Placed, readAt}
 use Rattle.bitmap.specs.Header.{behind, size as sizeOf, greatestSize, sizeThen}
 use Rattle.bitmap.specs.Pixels.{Raster, pixels, fault, onto, plainAt, blackIn}

@@ -11,8 +11,9 @@ use Rattle.lattice.proofs.Turn.{coordinates}
 use Rattle.lattice.proofs.Lists.{either}
 use Rattle.lattice.proofs.HalfPlane.{point-equal}
 use Rattle.lattice.proofs.Decide.{le?, lt?}
+use Rattle.pick.specs.Solid.{Rectangle}
 use Rattle.pick.proofs.Number.{Number, Twice, number-same, number-unique, number-union, number-part, number-image}
-use Rattle.pick.proofs.Rectangle.{Rectangle, number-rectangle}
+use Rattle.pick.proofs.Rectangle.{number-rectangle}
 use Rattle.pick.proofs.Divisor.{Steps}
 use Rattle.pick.proofs.Segment.{number-along}
 

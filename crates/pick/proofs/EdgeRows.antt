@@ -10,8 +10,9 @@ use Rattle.lattice.proofs.Turn.{coordinates}
 use Rattle.lattice.proofs.Lists.{either}
 use Rattle.lattice.proofs.HalfPlane.{point-equal}
 use Rattle.lattice.proofs.Decide.{lt?}
+use Rattle.pick.specs.Solid.{Rectangle}
 use Rattle.pick.proofs.Number.{Number, Twice, number-same, number-unique, number-one, number-union, number-part}
-use Rattle.pick.proofs.Rectangle.{Rectangle, number-rectangle}
+use Rattle.pick.proofs.Rectangle.{number-rectangle}
 use Rattle.pick.proofs.Divisor.{Steps}
 use Rattle.pick.proofs.Edge.{OnEdge, Beside, rise, right-of-first, number-on-edge, twice-beside}
 

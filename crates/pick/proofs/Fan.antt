@@ -21,25 +21,29 @@ use Rattle.pick.proofs.Number.{Number, number-overlap}
 use Rattle.pick.proofs.Divisor.{Steps}
 use Rattle.pick.proofs.Segment.{ahead, along-hull, number-two}
 
--- p is on the left of each edge from a through l and back to c, or on it
-abbrev Edges : Point → Point → Point → List Point → Type 0
-Edges p c a [] = NonNegative (turn a c p)
-Edges p c a (b ∷ l) = NonNegative (turn a b p) × Edges p c b l
+-- what holds of each edge from a through l and back to c
+abbrev pub Edges : (Point → Point → Type 0) → Point → Point → List Point → Type 0
+Edges R c a [] = R a c
+Edges R c a (b ∷ l) = R a b × Edges R c b l
+
+-- p is on the left of an edge, or on it
+abbrev pub Beside : Point → Point → Point → Type 0
+Beside p a b = NonNegative (turn a b p)
 
 edges-by-place : (p c a : Point) (l : List Point)
     → ((i : ℕ) → suc i < length (a ∷ l) → NonNegative (turn (point (a ∷ l) i) (point (a ∷ l) (suc i)) p))
-    → ((i : ℕ) → suc i ≡ length (a ∷ l) → NonNegative (turn (point (a ∷ l) i) c p)) → Edges p c a l
+    → ((i : ℕ) → suc i ≡ length (a ∷ l) → NonNegative (turn (point (a ∷ l) i) c p)) → Edges (Beside p) c a l
 edges-by-place p c a [] edges closing = closing 0 refl
 edges-by-place p c a (b ∷ l) edges closing =
     (edges 0 (omega arith), edges-by-place p c b l (λ i h. edges (suc i) (omega arith)) (λ i e. closing (suc i) (ap suc e)))
 
-hull-edges : (c : Point) (l : List Point) → Shape (c ∷ l) → (p : Point) → InHull (Of (c ∷ l)) p → Edges p c c l
+pub hull-edges : (c : Point) (l : List Point) → Shape (c ∷ l) → (p : Point) → InHull (Of (c ∷ l)) p → Edges (Beside p) c c l
 hull-edges c l s p h = let i = polygon (c ∷ l) s p .0 h in edges-by-place p c c l (i .edges) (i .closing)
 
 -- what is left of all edges is in one of the triangles about c
 module _ (M : Point → Type 0) (p c : Point) (mc : M c) where
   fan : (a b : Point) (l : List Point) → M a → M b → All M l → Pairs (Left c) (a ∷ b ∷ l)
-      → NonNegative (turn c a p) → Edges p c a (b ∷ l) → InHull M p
+      → NonNegative (turn c a p) → Edges (Beside p) c a (b ∷ l) → InHull M p
   fan a b [] ma mb ml t h e =
       either (le-or-lt (turn c b p) (pos 0))
       (λ k. triangle c a b mc ma mb (record { turned = t .0 .0; left-ab = h; left-bc = e .0; left-ca = turn-back c b p k }))
@@ -48,6 +52,12 @@ module _ (M : Point → Type 0) (p c : Point) (mc : M c) where
       either (le-or-lt (turn c b p) (pos 0))
       (λ k. triangle c a b mc ma mb (record { turned = t .0 .0; left-ab = h; left-bc = e .0; left-ca = turn-back c b p k }))
       (λ k. fan b d l mb (ml .0) (ml .1) (t .1) (le-of-lt k) (e .1))
+
+pub edges-hull : (c a b : Point) (l : List Point) → Shape (c ∷ a ∷ b ∷ l) → (p : Point)
+    → Edges (Beside p) c c (a ∷ b ∷ l) → InHull (Of (c ∷ a ∷ b ∷ l)) p
+edges-hull c a b l s p e =
+    fan (Of (c ∷ a ∷ b ∷ l)) p c (inl refl) a b l (inr (inl refl)) (inr (inr (inl refl)))
+    (in-all (Of (c ∷ a ∷ b ∷ l)) l (λ q m. inr (inr (inr m)))) (s .three .0) (e .0) (e .1)
 
 -- ---- three points
 pub hull-triangle : (c a b : Point) → Shape (c ∷ a ∷ b ∷ []) → (p : Point) → InHull (Of (c ∷ a ∷ b ∷ [])) p → InTriangle c a b p
@@ -79,8 +89,7 @@ module _ (c a b d : Point) (l : List Point) (s : Shape (c ∷ a ∷ b ∷ d ∷ 
       let e = hull-edges c (a ∷ b ∷ d ∷ l) s p h in
       either (le-or-lt (turn c b p) (pos 0))
       (λ k. inl (record { turned = turned; left-ab = e .0; left-bc = e .1 .0; left-ca = turn-back c b p k }))
-      (λ k. inr (fan (Of rest) p c (inl refl) b d l (inr (inl refl)) (inr (inr (inl refl)))
-      (in-all (Of rest) l (λ q m. inr (inr (inr m)))) (s .three .0 .1) (le-of-lt k) (e .1 .1)))
+      (λ k. inr (edges-hull c b d l (without-second c a b (d ∷ l) s) p (le-of-lt k, e .1 .1)))
 
   triangle-in : (p : Point) → InTriangle c a b p → InHull (Of corners) p
   triangle-in p t = triangle c a b (inl refl) (inr (inl refl)) (inr (inr (inl refl))) t

@@ -6,8 +6,9 @@ use Rattle.whole.proofs.Whole.{quote, _≤ᶻ_, _<ᶻ_, natural, gap≤, gap<, 
 use Rattle.lattice.specs.Point.{Point}
 use Rattle.lattice.proofs.Turn.{coordinates}
 use Rattle.lattice.proofs.Lists.{either}
+use Rattle.pick.specs.Solid.{Rectangle}
 use Rattle.pick.proofs.Number.{Twice, number-same, number-unique, number-none}
-use Rattle.pick.proofs.Rectangle.{Rectangle, number-rectangle}
+use Rattle.pick.proofs.Rectangle.{number-rectangle}
 use Rattle.pick.proofs.Divisor.{Steps}
 use Rattle.pick.proofs.Segment.{Along, number-along}
 use Rattle.pick.proofs.EdgeRows.{LeftOrOn, strip, twice-left-or-on}

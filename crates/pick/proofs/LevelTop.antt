@@ -10,8 +10,9 @@ use Rattle.lattice.specs.Hull.{turn, InTriangle}
 use Rattle.lattice.proofs.Turn.{coordinates}
 use Rattle.lattice.proofs.Lists.{either}
 use Rattle.lattice.proofs.Decide.{triangle?}
+use Rattle.pick.specs.Solid.{Rectangle}
 use Rattle.pick.proofs.Number.{Number, Twice, number-union, number-left}
-use Rattle.pick.proofs.Rectangle.{Rectangle, number-rectangle}
+use Rattle.pick.proofs.Rectangle.{number-rectangle}
 use Rattle.pick.proofs.Divisor.{steps-back}
 use Rattle.pick.proofs.EdgeRows.{LeftOrOn, LeftOf, strip, twice-left-or-on, twice-left-of}
 use Rattle.pick.proofs.Level.{level-steps}

@@ -4,7 +4,7 @@ use mathlib.Core.Path.{_≡_, refl, sym, _∙_, ap, subst}
 use mathlib.Core.Logic.{inl, inr, _↔_}
 use mathlib.Core.List.{List, [], _∷_}
 use lib.ListN.{length}
-use lib.IntN.{ℤ, pos, negsuc, _+ℤ_, _*ℤ_, _-ℤ_}
+use lib.IntN.{ℤ, pos, negsuc, natAbs, _+ℤ_, _*ℤ_, _-ℤ_, +ℤ-invr}
 use Rattle.whole.proofs.Whole.{quote, linear≡, _∗≡_, _∔_}
 use Rattle.lattice.specs.Point.{Point, In, Pairs, Before, Lists}
 use Rattle.lattice.specs.Hull.{InHull, member, triangle, Of, CornerList, MissingList}
@@ -17,7 +17,7 @@ use Rattle.lattice.proofs.Polygon.{polygon}
 use Rattle.lattice.proofs.SameMembers.{lists-same}
 use Rattle.lattice.proofs.CornerLists.{corner-list-shape, hull-of-corners}
 use Rattle.lattice.proofs.MissingLists.{hull-list-exists, missing-count-distinct}
-use Rattle.pick.specs.Pick.{span, cross, around, twiceCount}
+use Rattle.pick.specs.Pick.{divisor, span, cross, around, area, border, twiceCount}
 use Rattle.pick.proofs.Number.{Number, Twice, number-unique, number-same, number-none, number-one}
 use Rattle.pick.proofs.Divisor.{span-steps, steps-back}
 use Rattle.pick.proofs.Segment.{number-two}
@@ -90,6 +90,15 @@ pub pick : (s c h : List Point) → CornerList s c → Lists (InHull (Of c)) h �
 pick s c h corners all =
     let r = twice-hull c (corner-list-shape s c corners) in
     ap (λ n. pos 2 *ℤ n) (number-unique (record { list = h; listed = all; size = refl }) (r .1)) ∙ r .2
+
+-- ---- the formula is one for all lists that are not empty
+no-span : (c : Point) → span c c ≡ pos 0
+unfolding span
+no-span c = λ i. pos (divisor (natAbs (+ℤ-invr (c .x) i)) (natAbs (+ℤ-invr (c .y) i)))
+
+pub one-formula : (c : Point) (l : List Point) → twiceCount (c ∷ l) ≡ area (c ∷ l) +ℤ border (c ∷ l) +ℤ pos 2
+one-formula c [] = linear≡ (span c c ∷ coordinates (c ∷ [])) (negsuc 0 ∗≡ no-span c) (search quote depth 20) tt
+one-formula c (b ∷ l) = refl
 
 -- ---- the points missing from a list without repeats, from its corners and the number of its points alone
 pub missing-length : (s c m : List Point) → Pairs (λ a b. a ≡ b → ⊥) s → CornerList s c → MissingList s m

@@ -9,13 +9,8 @@ use Rattle.whole.proofs.Whole.{quote, ring, _≤ᶻ_, NonNegative, natural, gap
 use Rattle.lattice.specs.Point.{Point}
 use Rattle.lattice.proofs.Lists.{either}
 use Rattle.lattice.proofs.HalfPlane.{point-equal}
+use Rattle.pick.specs.Solid.{Rectangle}
 use Rattle.pick.proofs.Number.{Number, number-same, number-equal, number-none, number-one, number-union}
-
-pub record Rectangle (left right low high : ℤ) (p : Point) : Type 0 where
-  pub from-left : left ≤ᶻ p .x
-  pub to-right : p .x ≤ᶻ right
-  pub from-low : low ≤ᶻ p .y
-  pub to-high : p .y ≤ᶻ high
 
 pub one-more : (n : ℕ) → pos (suc n) ≡ pos 1 +ℤ pos n
 one-more n =

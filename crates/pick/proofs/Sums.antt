@@ -22,7 +22,7 @@ use Rattle.packed.proofs.RowOrder.{unpacked-in-range}
 use Rattle.pick.specs.Pick.{divisor, span, cross, around, area, border, twiceCount}
 use Rattle.pick.specs.Edge.{distance, steps, gain, loss}
 use Rattle.pick.proofs.Moved.{moved, twice-count-moved}
-use Rattle.pick.proofs.Pick.{pick}
+use Rattle.pick.proofs.Pick.{pick, one-formula}
 
 -- ---- no product is large: a column times a row
 pub column-times-row : (a b : ℕ) → b < cells → a % side * (b / side) < cells
@@ -101,42 +101,30 @@ natural-moved : (corners : List ℕ) → map unpacked corners ≡ moved (negℤ 
 natural-moved [] = refl
 natural-moved (a ∷ l) = ap (λ m. unpacked a ∷ m) (natural-moved l)
 
-one-corner : (a : ℕ) → 2 + total gain (a ∷ []) ≡ 2 * 1 + total loss (a ∷ [])
-one-corner a =
-    let x : distance (a % side) (a % side) ≡ 0 = omega arith in
-    let y : distance (a / side) (a / side) ≡ 0 = omega arith in
-    let e : steps a a ≡ 0 = λ i. divisor (x i) (y i) in
-    omega (arith, e)
-
-module _ (a b : ℕ) (l : List ℕ) where
+module _ (a : ℕ) (l : List ℕ) where
   abbrev corners : List ℕ
-  corners = a ∷ b ∷ l
+  corners = a ∷ l
 
   all-edges : area (map natural-point corners) +ℤ border (map natural-point corners) ≡ pos (total gain corners) -ℤ pos (total loss corners)
   all-edges =
-      edges a a (b ∷ l)
-      ∙ ap (λ z. pos (gain z a + sum gain a (b ∷ l)) -ℤ pos (loss z a + sum loss a (b ∷ l))) (sym (last-of a (b ∷ l)))
+      edges a a l ∙ ap (λ z. pos (gain z a + sum gain a l) -ℤ pos (loss z a + sum loss a l)) (sym (last-of a l))
 
-  more-corners : (n : ℕ) → pos 2 *ℤ pos n ≡ twiceCount (map unpacked corners) → 2 + total gain corners ≡ 2 * n + total loss corners
-  more-corners n e =
+  twice : (n : ℕ) → pos 2 *ℤ pos n ≡ twiceCount (map unpacked corners) → 2 + total gain corners ≡ 2 * n + total loss corners
+  twice n e =
       ap natAbs (sums (pos (total gain corners)) (pos (total loss corners)) (area (map natural-point corners)) (border (map natural-point corners)) (pos n) all-edges
-      (e ∙ ap twiceCount (natural-moved corners) ∙ twice-count-moved (negℤ (pos offset)) (negℤ (pos offset)) (map natural-point corners)))
+      (e ∙ ap twiceCount (natural-moved corners) ∙ twice-count-moved (negℤ (pos offset)) (negℤ (pos offset)) (map natural-point corners)
+      ∙ one-formula (natural-point a) (map natural-point l)))
     where
       sums : (G L A B n : ℤ) → A +ℤ B ≡ G -ℤ L → pos 2 *ℤ n ≡ A +ℤ B +ℤ pos 2 → pos 2 +ℤ G ≡ pos 2 *ℤ n +ℤ L
       sums G L A B n e f = linear≡ (G ∷ L ∷ A ∷ B ∷ n ∷ []) (negsuc 0 ∗≡ e ∔ negsuc 0 ∗≡ f) (search quote depth 20) tt
 
-twice : (corners : List ℕ) (n : ℕ) → 0 < length corners → pos 2 *ℤ pos n ≡ twiceCount (map unpacked corners)
-    → 2 + total gain corners ≡ 2 * n + total loss corners
-twice [] n h e = absurd (omega (arith, h))
-twice (a ∷ []) n h e = let one : 2 * n ≡ 2 = ap natAbs e in omega (arith, one, one-corner a)
-twice (a ∷ b ∷ l) n h e = more-corners a b l n e
-
 -- ---- the number of the hull's lattice points
 counted : (corners : List ℕ) → Cornered corners → 0 < length corners
     → (n : ℕ) × CountOf (HullOf corners) n × (2 + total gain corners ≡ 2 * n + total loss corners)
-counted corners h some =
-    let r = hull-list-exists (map unpacked corners) in
-    (length (r .0), (r .0, r .1, refl), twice corners (length (r .0)) some (pick (map unpacked corners) (map unpacked corners) (r .0) (h .listed) (r .1)))
+counted [] h some = absurd (omega (arith, some))
+counted (a ∷ l) h some =
+    let r = hull-list-exists (map unpacked (a ∷ l)) in
+    (length (r .0), (r .0, r .1, refl), twice a l (length (r .0)) (pick (map unpacked (a ∷ l)) (map unpacked (a ∷ l)) (r .0) (h .listed) (r .1)))
 
 -- no corners, no points
 pub none-counted : (corners : List ℕ) → Cornered corners → length corners ≡ 0 → CountOf (HullOf corners) 0

@@ -1,3 +1,4 @@
--- Pick's formula, and what an edge is worth in it.
+-- Pick's formula; what an edge is worth in it; what solidity with square pixels divides.
 pub mod Pick
 pub mod Edge
+pub mod Solid

@@ -1,7 +1,7 @@
 -- A row written gap by gap: all columns of a gap at once, and the neighbours behind it passed. Assumes nothing.
 use mathlib.Core.Path.{_≡_, refl, sym, ap, subst}
 use mathlib.Core.Logic.{_⊎_, inl, inr}
-use mathlib.Core.List.{List, _++_}
+use mathlib.Core.List.{List, [], _++_}
 use Prim.Native.Nat.{ℕ, zero, suc, _+_, _-_, _*_, _≤_, _<_}
 use native.Mathlib.Omega.{arith}
 use borrow.Rule.Slice.PartMut.{putMid}
@@ -27,6 +27,30 @@ module _ (row : List ℤ) (s : Stretch) (y : ℕ) (h : RowPoints row s y) where
   rise-by : (i k : ℕ) → i + k < length (points row) → columnAt row i + k ≤ columnAt row (i + k)
   rise-by i zero l = let e : i + 0 ≡ i = omega arith in omega (arith, ap (columnAt row) e)
   rise-by i (suc k) l = omega (arith, rise-by i k (omega arith), h .rises (i + k) (i + suc k) (omega arith) l)
+
+  -- as many points as columns: the row has a point in each
+  pub full-row : length (points row) ≡ s .to - s .from → (n : ℕ) → s .from ≤ n → n < s .to → In (cell n y) (points row)
+  full-row e n u v =
+      let i = n - s .from in
+      let k = s .to - 1 - n in
+      let l : i + k < length (points row) = omega (arith, e, u, v) in
+      let a = rise-by 0 i (omega (arith, e, u, v)) in
+      let b = rise-by i k l in
+      let z : 0 + i ≡ i = omega arith in
+      held-in row s y h i n (is-column row s y h i n (omega (arith, e, u, v))
+      (omega (arith, a, b, u, v, ap (columnAt row) z, h .within 0 (omega (arith, e, u, v)) .from, h .within (i + k) l .to)))
+
+  pub no-gap : length (points row) ≡ s .to - s .from → (room : List ℤ) → Puts (Gap row s y) room 0 room
+  no-gap e room = (
+    [],
+    record {
+      every = λ p g. g .lacks (subst (λ q. In q (points row)) (sym (g .here)) (full-row e (g .column) (g .within .from) (g .within .to)));
+      only = λ p m. absurd m;
+      order = tt;
+    },
+    refl,
+    refl,
+  )
 
   -- between neighbours the row has a point in every column
   between-neighbours : (i r : ℕ) → Neighbour row i r → (n : ℕ) → columnAt row i ≤ n → n ≤ columnAt row r → In (cell n y) (points row)

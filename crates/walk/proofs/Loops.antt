@@ -16,10 +16,11 @@ use Rattle.order.specs.Row.{Holds, LeadsTo}
 use Rattle.stretch.specs.Stretch.{cell, StretchOf, Peak}
 use Rattle.stretch.specs.declared.Stretch.{Stretch}
 use Rattle.packed.specs.Corners.{HullOf}
-use Rattle.walk.specs.Walk.{Walked, Lacking, FirstOf, Takes, Puts, Gap}
+use Rattle.walk.specs.Walk.{Walked, Lacking, FirstOf, Takes, Puts, Gap, FirstColumn}
 use Rattle.walk.proofs.Rows.{at-cell, part, row-next, holds-leads}
 use Rattle.walk.proofs.Lending.{rest, puts-length, puts-used, rest-takes, puts-then}
 use Rattle.walk.proofs.Gaps.{Held, Passed, passed-none, passed-held, held-in, gap-here}
+use Rattle.walk.proofs.Filling.{full-row}
 use Rattle.walk.proofs.Walking.{firstRow, lastRow, some, Upto, upto-none, upto-all, upto-more, in-rows, last-row, row-is, gap-lacking, lacking-gap, gaps-exist}
 
 -- row y is one of the hull's, or the one after the last
@@ -146,13 +147,29 @@ module _ (corners : List ℕ) (list : List ℤ) (w : Walked corners list) (peak 
       abbrev rowOf : List ℤ
       rowOf = part list begin end
 
-      pub searching-none : Searching rowOf s y (s .from)
+      searching-none : Searching rowOf s y (s .from)
       searching-none = let e : s .from - s .from ≡ 0 = omega arith in record {
         from = omega arith;
         to = f .rising;
         passed = subst (Passed rowOf (s .from)) (sym e) (passed-none rowOf s y (row-is corners list w y begin end s f k));
         full = λ n l m. absurd (omega arith);
       }
+
+      searching-full : length (points rowOf) ≡ s .to - s .from → Searching rowOf s y (s .to)
+      searching-full e = let r = row-is corners list w y begin end s f k in record {
+        from = f .rising;
+        to = omega arith;
+        passed = record {
+          upto = omega (arith, e);
+          before = λ j l. r .within j (omega (arith, e, l)) .to;
+          after = λ j l m. absurd (omega (arith, e, l, m));
+        };
+        full = full-row rowOf s y r e;
+      }
+
+      pub searching-first : (x : ℕ) → FirstColumn s (length (points rowOf)) x → Searching rowOf s y x
+      searching-first x c =
+          either c (λ e. subst (Searching rowOf s y) (sym e) searching-none) (λ e. subst (Searching rowOf s y) (sym (e .1)) (searching-full (e .0)))
 
       module _ (x : ℕ) (h : Searching rowOf s y x) where
         pub searching-more : x < s .to → Held rowOf (x - s .from) x → Searching rowOf s y (x + 1)

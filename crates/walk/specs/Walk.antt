@@ -64,6 +64,10 @@ pub record Neighbour (row : List ℤ) (i r : ℕ) : Type 0 where
   pub upto : r < length (points row)
   pub behind : columnAt row i + (r - i) ≡ columnAt row r
 
+-- r is the first column of the stretch; or one behind the last, where a row of so many points has one in each
+abbrev pub FirstColumn : Stretch → ℕ → ℕ → Type 0
+FirstColumn s count r = (r ≡ s .from) ⊎ ((count ≡ s .to - s .from) × (r ≡ s .to))
+
 -- p is in row y and in the stretch, and no point of the row
 pub record Gap (row : List ℤ) (s : Stretch) (y : ℕ) (p : Point) : Type 0 where
   pub column : ℕ

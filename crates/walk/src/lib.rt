@@ -7,7 +7,7 @@ ghost use Rattle.packed.specs.Packed.{Tells, side};
 ghost use Rattle.order.specs.Row.{RunsTo};
 ghost use Rattle.stretch.specs.Stretch.{Peak};
 ghost use Rattle.packed.specs.Corners.{HullOf};
-ghost use Rattle.walk.specs.Walk.{Walked, Lacking, FirstOf, Takes, Puts, Later, columnAt, RowPoints, Gap, Across, InRow, Neighbour};
+ghost use Rattle.walk.specs.Walk.{Walked, Lacking, FirstOf, Takes, Puts, Later, columnAt, RowPoints, Gap, Across, InRow, Neighbour, FirstColumn};
 use stretch::Stretch;
 
 const SIDE: u32 = 16384;
@@ -88,6 +88,17 @@ fn holds(row: &[i32], i: usize, x: i32) -> bool
     row[2 * i] == x
 }
 
+// The column from which on to look for a gap: a row with as many points as columns has none.
+fn first_column(row: &[i32], columns: Stretch) -> u32
+    requires { ⌜ columns .from ≤ columns .to ⌝ }
+    ensures { λ r. ⌜ FirstColumn columns (length (points (now (row .entry)))) r ⌝ }
+{
+    if row.len() / 2 == (columns.to - columns.from) as usize {
+        return columns.to;
+    }
+    columns.from
+}
+
 // The first lattice point of the hull that the list lacks: rows and columns are gone through, and both are left as soon as there is one.
 pub fn first(corners: &[u32], list: &[i32]) -> u32
     requires { ⌜ Walked (now corners) (now list) ⌝ }
@@ -109,7 +120,7 @@ pub fn first(corners: &[u32], list: &[i32]) -> u32
         crossing = stretch::next(corners, peak, y, crossing);
         let end = end_of_row(list, packed::placed(y), begin);
         let row = &list[2 * begin..2 * end];
-        let mut x = columns.from;
+        let mut x = first_column(row, columns);
         while x < columns.to {
             if holds(row, (x - columns.from) as usize, packed::placed(x)) {
                 x += 1;
@@ -166,12 +177,16 @@ fn fill(stretch: Stretch, y: u32, room: &mut [i32]) -> usize
     used
 }
 
-// The lattice points of a row's stretch that are no points of the row, gap by gap, at the front of the room; how many there are.
+// The lattice points of a row's stretch that are no points of the row, gap by gap, at the front of the room; how many there are. A row with as
+// many points as columns has no gap.
 fn write_row(row: &[i32], stretch: Stretch, y: u32, room: &mut [i32]) -> usize
     requires { ⌜ RowPoints (now row) stretch y × (y < side) × Takes (Gap (now row) stretch y) (now room) ⌝ }
     ensures { λ r. ⌜ Puts (Gap (now (row .entry)) stretch y) (now (room .entry)) r (now (room .exit)) ⌝ }
 {
     let n = row.len() / 2;
+    if n == (stretch.to - stretch.from) as usize {
+        return 0;
+    }
     let mut i: usize = 0;
     let mut used: usize = 0;
     let mut x = stretch.from;

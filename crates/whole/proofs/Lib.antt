@@ -4,5 +4,6 @@ pub mod Polynomial
 pub mod Quote
 pub mod Order
 pub mod Linear
+pub mod Absolute
 pub mod Natural
 pub mod Whole

@@ -122,6 +122,12 @@ le-of-equal {a} {b} e = linear≤ (a ∷ b ∷ []) (pos 1 ⋆≡ e) (search quot
 pub le-of-lt : {a b : ℤ} → a <ᶻ b → a ≤ᶻ b
 le-of-lt {a} {b} h = linear≤ (a ∷ b ∷ []) (gap< h) (search quote depth 20) tt
 
+pub le-transitive : {a b c : ℤ} → a ≤ᶻ b → b ≤ᶻ c → a ≤ᶻ c
+le-transitive {a} {b} {c} h k = linear≤ (a ∷ b ∷ c ∷ []) (gap≤ h ⊞ gap≤ k) (search quote depth 20) tt
+
+pub le-negated : {a b : ℤ} → a ≤ᶻ b → negℤ b ≤ᶻ negℤ a
+le-negated {a} {b} h = linear≤ (a ∷ b ∷ []) (gap≤ h) (search quote depth 20) tt
+
 -- ---- products and signs
 pub product-positive : {a b : ℤ} → Positive a → Positive b → Positive (a *ℤ b)
 product-positive {a} {b} h k =
@@ -149,3 +155,13 @@ zero-factor {a} {b} e k =
     (linear≤ (b ∷ []) (nonnegative-factor {a = a} {b = negℤ b} (linear≤ (a ∷ b ∷ []) (pos 1 ⋆≡ e) (search quote depth 20) tt) k)
     (search quote depth 20) tt)
     (nonnegative-factor {a = a} {b = b} (linear≤ (a ∷ b ∷ []) (pos 1 ⋆≡ sym e) (search quote depth 20) tt) k)
+
+pub zero-product : {a b : ℤ} → a *ℤ b ≡ pos zero → (a ≡ pos zero) ⊎ (b ≡ pos zero)
+zero-product {a} {b} e = by-sign (sign a)
+  where
+    by-sign : Sign a → (a ≡ pos zero) ⊎ (b ≡ pos zero)
+    by-sign (below h) =
+        inr (zero-factor {a = negℤ a} {b = b} (linear≡ (a ∷ b ∷ []) (negsuc 0 ∗≡ e) (search quote depth 20) tt)
+        (linear< (a ∷ []) (gap< h) (search quote depth 20) tt))
+    by-sign (nought z) = inl z
+    by-sign (above h) = inr (zero-factor e h)

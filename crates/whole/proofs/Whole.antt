@@ -17,7 +17,8 @@
 -- 3. By `omega`, where no certificate comes to mind; whole turns or products are best listed as variables:
 --        out≤ ρ (search quote depth 20) (omega (arith, in≤ ρ h (search quote depth 20), in≡ ρ e (search quote depth 20)))
 --
--- 4. By cases: `sign`, `le-or-lt`. Products: `product-positive`, `nonnegative-factor`, `positive-factor`, `zero-factor`, and the laws below.
+-- 4. By cases: `sign`, `le-or-lt`. Products: `product-positive`, `nonnegative-factor`, `positive-factor`, `zero-factor`, `zero-product`,
+--    and the laws below. Magnitudes: `absolute` and its laws.
 --
 -- The laws below are the worked examples. Assumes nothing.
 use mathlib.Core.Path.{_≡_, sym, subst}
@@ -46,10 +47,21 @@ pub use Rattle.whole.proofs.Linear.{
   antisymmetric,
   le-of-equal,
   le-of-lt,
+  le-transitive,
+  le-negated,
   product-positive,
   nonnegative-factor,
   positive-factor,
   zero-factor,
+  zero-product,
+}
+pub use Rattle.whole.proofs.Absolute.{
+  absolute,
+  absolute-of-nonnegative,
+  absolute-of-nonpositive,
+  absolute-zero,
+  absolute-product,
+  absolute-of-unit,
 }
 pub use Rattle.whole.proofs.Natural.{in≤, in<, in≡, out≤, out<, out≡}
 

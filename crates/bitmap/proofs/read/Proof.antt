@@ -7,8 +7,8 @@ use native.Mathlib.Omega.{arith}
 use borrow.Author.Needs.{needs}
 use denote.Ref.{now}
 use lib.ListN.{length}
-use Rattle.bitmap.specs.declared.Count.the-variants as counts
-use Rattle.bitmap.specs.declared.Header.the-variants.{Sound}
+use Rattle.bitmap.specs.declared.pixels.Count.the-variants as counts
+use Rattle.bitmap.specs.declared.header.Header.the-variants.{Sound}
 use Rattle.bitmap.specs.Header.{headerOf}
 use Rattle.bitmap.specs.Pixels.{Raster, plainAt}
 use Rattle.bitmap.specs.Picture.{longest, beginsP1, rastered, readingOf}

@@ -19,7 +19,7 @@ use Rattle.order.proofs.RowLaws.{ends-hold}
 use Rattle.stretch.specs.Stretch.{StretchOf, Peaked, Crosses}
 use Rattle.stretch.proofs.Following.{between-sides}
 use Rattle.walk.proofs.Walking.{peaked, peaked-first, last-row, nothing}
-use Rattle.walk.proofs.Loops.{Searched, Searching, searched-none, searched-all, searching-none, searching-more, searching-found, searching-all}
+use Rattle.walk.proofs.Loops.{Searched, Searching, searched-none, searched-all, searching-first, searching-more, searching-found, searching-all}
 
 abbrev Inv-loop : tie.InvT-loop
 Inv-loop corners list peak last crossing begin y columns end row x₀ x = Searching row columns y x
@@ -127,11 +127,15 @@ part-row-start c = omega (arith, held c .rising)
 part-row-end : tie.Need-part-row-end Inv-loop μ-loop Inv-rows μ-rows
 part-row-end c = inside c
 
+first-column-requires : tie.Need-first-column-requires Inv-loop μ-loop Inv-rows μ-rows
+first-column-requires c κs = stretch (c .before .before .before) .rising
+
 loop-holds : tie.Need-loop-holds Inv-loop μ-loop Inv-rows μ-rows
-loop-holds c = let r = c .before in
+loop-holds c = let r = c .before .before in
     let l = r .before .before .before .before .before in
     let p = l .before .before .before .before in
-    searching-none _ _ (p .before .before .before .pre) _ (p .peak .ensures) _ _ (l .rows .inv .0) (row (r .before .before .before .before)) _ (stretch (r .before .before)) _ (held r)
+    searching-first _ _ (p .before .before .before .pre) _ (p .peak .ensures) _ _ (l .rows .inv .0) (row (r .before .before .before .before)) _ (stretch (r .before .before)) _ (held r)
+    _ (c .first-column .ensures)
 
 sub-holds : tie.Need-sub-holds Inv-loop μ-loop Inv-rows μ-rows
 sub-holds c = c .before .before .before .loop .inv .from
@@ -140,7 +144,7 @@ cast-holds : tie.Need-cast-holds Inv-loop μ-loop Inv-rows μ-rows
 cast-holds c = omega arith
 
 placed-requires-2 : tie.Need-placed-requires-2 Inv-loop μ-loop Inv-rows μ-rows
-placed-requires-2 c κs = omega (arith, c .before .if3 .taken, stretch (c .before .before .before .before .before .before .before) .few)
+placed-requires-2 c κs = omega (arith, c .before .if3 .taken, stretch (c .before .before .before .before .before .before .before .before) .few)
 
 holds-requires : tie.Need-holds-requires Inv-loop μ-loop Inv-rows μ-rows
 holds-requires c κs = search needs
@@ -150,14 +154,14 @@ is-column : (c : tie.After-placed2 Inv-loop μ-loop Inv-rows μ-rows) → toZ w3
 is-column c = read-back (c .placed2 .result) (record { sfits = c .placed2 .ok }) ∙ c .placed2 .ensures
 
 add-x : tie.Need-add-x Inv-loop μ-loop Inv-rows μ-rows
-add-x c = omega (arith, c .before .before .before .before .if3 .taken, stretch (c .before .before .before .before .before .before .before .before .before .before) .few)
+add-x c = omega (arith, c .before .before .before .before .if3 .taken, stretch (c .before .before .before .before .before .before .before .before .before .before .before) .few)
 
 loop-less : tie.Need-loop-less Inv-loop μ-loop Inv-rows μ-rows
 loop-less c = omega (arith, c .before .before .before .before .if3 .taken)
 
 loop-again : tie.Need-loop-again Inv-loop μ-loop Inv-rows μ-rows
 loop-again c = let l = c .before .before .before .before .before .before in
-    let r = l .before .before in
+    let r = l .before .before .before in
     let o = r .before .before .before .before .before in
     let p = o .before .before .before .before in
     let h = tells-yes (c .if4 .taken) (c .before .holds .ensures) in
@@ -165,8 +169,8 @@ loop-again c = let l = c .before .before .before .before .before .before in
     _ (l .loop .inv) (c .before .before .before .before .if3 .taken) (h .0, h .1 ∙ is-column (c .before .before))
 
 -- the row and the column are in the range
-small : (c : tie.Else4 Inv-loop μ-loop Inv-rows μ-rows) → let l = c .before .before .before .before .before .before in (l .before .before .before .before .before .before .before .rows .y < side) × (l .loop .x < side)
-small c = let r = c .before .before .before .before .before .before .before .before in (
+small : (c : tie.Else4 Inv-loop μ-loop Inv-rows μ-rows) → let l = c .before .before .before .before .before .before in (l .before .before .before .before .before .before .before .before .rows .y < side) × (l .loop .x < side)
+small c = let r = c .before .before .before .before .before .before .before .before .before in (
   omega (arith, few (r .before .before .before .before .before), row (r .before .before .before .before)),
   omega (arith, c .before .before .before .before .if3 .taken, stretch (r .before .before) .few),
 )
@@ -178,14 +182,14 @@ add-result : tie.Need-add-result Inv-loop μ-loop Inv-rows μ-rows
 add-result c = omega (arith, small c)
 
 add-y : tie.Need-add-y Inv-loop μ-loop Inv-rows μ-rows
-add-y c = let r = c .before .before .before .before in omega (arith, few (r .before .before .before .before .before), row (r .before .before .before .before))
+add-y c = let r = c .before .before .before .before .before in omega (arith, few (r .before .before .before .before .before), row (r .before .before .before .before))
 
 rows-less : tie.Need-rows-less Inv-loop μ-loop Inv-rows μ-rows
-rows-less c = let r = c .before .before .before .before in omega (arith, row (r .before .before .before .before))
+rows-less c = let r = c .before .before .before .before .before in omega (arith, row (r .before .before .before .before))
 
 rows-again : tie.Need-rows-again Inv-loop μ-loop Inv-rows μ-rows
 rows-again c = let l = c .before .before in
-    let r = l .before .before in
+    let r = l .before .before .before in
     let o = r .before .before .before .before .before in
     let p = o .before .before .before .before in (
       searching-all _ _ (p .before .before .before .pre) _ (p .peak .ensures) _ _ (o .rows .inv .0) (row (r .before .before .before .before)) _ (stretch (r .before .before)) _ (held r)
@@ -199,7 +203,7 @@ returns-2 c = let p = c .before .before .before .before .before in
 
 returns-3 : tie.Need-returns-3 Inv-loop μ-loop Inv-rows μ-rows
 returns-3 c = let l = c .before .before .before .before .before .before in
-    let r = l .before .before in
+    let r = l .before .before .before in
     let o = r .before .before .before .before .before in
     let p = o .before .before .before .before in
     searching-found _ _ (p .before .before .before .pre) _ (p .peak .ensures) _ _ (o .rows .inv .0) (row (r .before .before .before .before)) _ (stretch (r .before .before)) _ (held r)
@@ -231,6 +235,7 @@ first-spec =
     sub-row
     part-row-start
     part-row-end
+    first-column-requires
     loop-holds
     sub-holds
     cast-holds
