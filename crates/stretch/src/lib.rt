@@ -155,11 +155,17 @@ fn next_left(corners: &[u32], peak: usize, y: u32, edge: Edge) -> Edge
     climb(i, corners[i + 1], corners[i], y + 1, MOVED)
 }
 
-// Both sides in the row after a corner's. A function of its own, and called twice, so that it is not inlined and what most rows take is.
+// Both sides in the row after a corner's. A function of its own, long and called twice, so that it is not inlined and what most rows take is.
 fn past_corner(corners: &[u32], peak: usize, y: u32, crossing: Crossing) -> Crossing
     requires { ⌜ Peaked (now corners) peak y × (y < getD (now corners) peak 0 / side) × Crosses (now corners) peak y crossing ⌝ }
     ensures { λ r. ⌜ Crosses (now (corners .entry)) peak (y + 1) r ⌝ }
 {
+    if y < crossing.right.last {
+        return Crossing {
+            left: next_left(corners, peak, y, crossing.left),
+            right: step(crossing.right),
+        };
+    }
     Crossing {
         left: next_left(corners, peak, y, crossing.left),
         right: next_right(corners, peak, y, crossing.right),
