@@ -172,6 +172,26 @@ fn past_corner(corners: &[u32], peak: usize, y: u32, crossing: Crossing) -> Cros
     }
 }
 
+// The same crossing, field by field: what is handed to a call that is not inlined lies in memory, and only there is it laid there.
+fn copied(crossing: Crossing) -> Crossing
+    ensures { λ r. ⌜ r ≡ crossing ⌝ }
+{
+    Crossing {
+        left: Edge {
+            place: crossing.left.place,
+            last: crossing.left.last,
+            position: crossing.left.position,
+            slope: crossing.left.slope,
+        },
+        right: Edge {
+            place: crossing.right.place,
+            last: crossing.right.last,
+            position: crossing.right.position,
+            slope: crossing.right.slope,
+        },
+    }
+}
+
 // Both sides in the row after y, if the hull has that row: all rows together take as many steps as there are rows and corners.
 pub fn next(corners: &[u32], peak: usize, y: u32, crossing: Crossing) -> Crossing
     requires { ⌜ Peaked (now corners) peak y × Crosses (now corners) peak y crossing ⌝ }
@@ -184,12 +204,12 @@ pub fn next(corners: &[u32], peak: usize, y: u32, crossing: Crossing) -> Crossin
                 right: step(crossing.right),
             };
         }
-        return past_corner(corners, peak, y, crossing);
+        return copied(past_corner(corners, peak, y, copied(crossing)));
     }
     if corners[peak] / SIDE <= y {
         return crossing;
     }
-    past_corner(corners, peak, y, crossing)
+    copied(past_corner(corners, peak, y, copied(crossing)))
 }
 
 // The column that an edge crosses.
