@@ -2,6 +2,7 @@
 use mathlib.Core.Path.{_≡_, sym, ap, subst}
 use mathlib.Core.List.{List, map}
 use Prim.Native.Nat.{ℕ, suc, _+_, _-_, _*_, _/_, _%_, _≤_, _<_}
+use native.Mathlib.Numerals.{add-one}
 use native.Mathlib.Omega.{arith}
 use lib.ListN.{getD}
 use Rattle.lattice.proofs.Lists.{either}
@@ -25,14 +26,14 @@ module _ (corners : List ℕ) (peak y : ℕ) (h : Peaked corners peak y) where
   abbrev last-row : ℕ
   last-row = getD corners peak 0 / side
 
-  pub rising-slope : (i : ℕ) → Rises corners y i → Slope (getD corners i 0) (getD corners (suc i) 0) y
-  rising-slope i r = record {
+  pub rising-slope : (i : ℕ) → Rises corners y i → Slope (getD corners i 0) (getD corners (i + 1) 0) y
+  rising-slope i r = subst (λ n. Slope (getD corners i 0) (getD corners n 0) y) (sym (add-one i)) (record {
     a-below = h .below i (omega (arith, r .inside));
     b-below = h .below (suc i) (r .inside);
     low = r .low;
     high = r .high;
     steep = r .steep;
-  }
+  })
 
   pub falling-slope : (i end : ℕ) → Falls corners y i end → Slope end (getD corners i 0) y
   falling-slope i end f = record {
@@ -78,33 +79,36 @@ module _ (corners : List ℕ) (peak y : ℕ) (h : Peaked corners peak y) where
       up : Rising corners peak y e
       up = on .tall right-tall
 
-      up-high : y < getD corners (suc (e .place)) 0 / side
+      up-high : y < getD corners (e .place + 1) 0 / side
       up-high = omega (arith, l, up .climbs .last)
+
+      up-on : y + 1 ≤ getD corners (suc (e .place)) 0 / side
+      up-on = subst (λ n. y + 1 ≤ getD corners n 0 / side) (add-one (e .place)) (omega (arith, up-high))
 
       pub right-small : e .position + e .slope < unit * unit
       right-small = step-small _ _ y (rising-slope (e .place) (up .rises)) 0 (omega arith) up-high e (up .climbs)
 
-      pub right-on : OnRight corners peak (y + 1) (stepped e)
-      right-on = let r = up .rises in record {
+      pub right-on : (r : Edge) → r ≡ stepped e → OnRight corners peak (y + 1) r
+      right-on r q = let k = up .rises in subst (OnRight corners peak (y + 1)) (sym q) (record {
         tall = λ t. record {
           before = up .before;
-          rises = record { inside = r .inside; low = omega (arith, r .low); high = omega (arith, up-high); steep = r .steep };
-          climbs = climbs-on _ _ y (rising-slope (e .place) r) 0 (omega arith) up-high e (up .climbs);
+          rises = record { inside = k .inside; low = omega (arith, k .low); high = up-on; steep = k .steep };
+          climbs = climbs-on _ _ y (rising-slope (e .place) k) 0 (omega arith) up-high e (up .climbs);
         };
         only = λ n. absurd (n right-tall);
-      }
+      })
 
     -- past its end
     pub rises-from : y < last-row → e .last ≤ y → RisesFrom corners peak (y + 1) (e .place)
     rises-from l k = let r = on .tall (tall-from l) in record { before = r .before; low = omega (arith, r .rises .low) }
 
   pub right-of : (i : ℕ) → i < peak → Rises corners y i → Tall corners peak → (e : Edge) → e .place ≡ i
-      → Climbs (getD corners i 0) (getD corners (suc i) 0) y 0 e → OnRight corners peak y e
+      → Climbs (getD corners i 0) (getD corners (i + 1) 0) y 0 e → OnRight corners peak y e
   right-of i b r t e q c = record {
     tall = λ _. record {
       before = omega (arith, b, q);
       rises = subst (Rises corners y) (sym q) r;
-      climbs = subst (λ n. Climbs (getD corners n 0) (getD corners (suc n) 0) y 0 e) (sym q) c;
+      climbs = subst (λ n. Climbs (getD corners n 0) (getD corners (n + 1) 0) y 0 e) (sym q) c;
     };
     only = λ n. absurd (n t);
   }
@@ -121,11 +125,14 @@ module _ (corners : List ℕ) (peak y : ℕ) (h : Peaked corners peak y) where
       down-high : y < getD corners (e .place) 0 / side
       down-high = omega (arith, l, down .climbs .last)
 
+      pub left-below : y < last-row
+      left-below = omega (arith, down-high, h .peaks .greatest (e .place) (down .falls .inside))
+
       pub left-small : e .position + e .slope < unit * unit
       left-small = step-small _ _ y (falling-slope (e .place) (down .end) (down .falls)) moved (omega arith) down-high e (down .climbs)
 
-      pub left-on : OnLeft corners peak (y + 1) (stepped e)
-      left-on = let f = down .falls in record {
+      pub left-on : (r : Edge) → r ≡ stepped e → OnLeft corners peak (y + 1) r
+      left-on r q = let f = down .falls in subst (OnLeft corners peak (y + 1)) (sym q) (record {
         tall = λ t. record {
           end = down .end;
           behind = down .behind;
@@ -133,7 +140,7 @@ module _ (corners : List ℕ) (peak y : ℕ) (h : Peaked corners peak y) where
           climbs = climbs-on _ _ y (falling-slope (e .place) (down .end) f) moved (omega arith) down-high e (down .climbs);
         };
         only = λ n. absurd (n left-tall);
-      }
+      })
 
     module _ (l : y < last-row) (k : e .last ≤ y) where
       done : Falling corners peak y e
@@ -148,7 +155,7 @@ module _ (corners : List ℕ) (peak y : ℕ) (h : Peaked corners peak y) where
           (λ g. let q : peak ≡ e .place = omega (arith, done .behind, g) in absurd (omega (arith, l, low, ap (λ n. getD corners n 0 / side) q)))
 
       pub falls-from : FallsFrom corners peak (y + 1) (e .place - 1)
-      falls-from = let q : e .place ≡ suc (e .place - 1) = omega (arith, falls-place) in record {
+      falls-from = let q : e .place ≡ e .place - 1 + 1 = omega (arith, falls-place) in record {
         behind = omega (arith, falls-place);
         inside = omega (arith, falls-place, done .falls .inside);
         low = subst (λ n. getD corners n 0 / side < y + 1) q (omega (arith, low));

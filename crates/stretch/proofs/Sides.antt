@@ -192,16 +192,16 @@ module _ (corners : List ℕ) (peak y : ℕ) (h : Peaked corners peak y) where
         either (lt-or-le peak i) (λ l. l) (λ l. let e : peak ≡ i = omega (arith, l, r .behind) in absurd (omega (arith, u, h .to-row, ap rowAt e)))
 
     pub falls-on : FallsFrom corners peak y i → rowAt i < y → FallsFrom corners peak y (i - 1)
-    falls-on r u = let e : i ≡ suc (i - 1) = omega (arith, falls-past r u) in record {
+    falls-on r u = let e : i ≡ i - 1 + 1 = omega (arith, falls-past r u) in record {
       behind = omega (arith, falls-past r u);
       inside = omega (arith, r .inside, falls-past r u);
       low = subst (λ n. rowAt n < y) e u;
     }
 
-    pub falls-here : FallsFrom corners peak y i → y ≤ rowAt i → Falls corners y i (getD corners (suc i) 0)
+    pub falls-here : FallsFrom corners peak y i → y ≤ rowAt i → Falls corners y i (getD corners (i + 1) 0)
     falls-here r u = record {
       inside = omega (arith, r .inside);
-      after = inl (r .inside, refl);
+      after = inl (r .inside, ap (λ n. getD corners n 0) (add-one i));
       high = u;
       low = omega (arith, r .low);
       steep = omega (arith, r .low, u);
@@ -334,15 +334,16 @@ module _ (corners : List ℕ) (peak y : ℕ) (h : Peaked corners peak y) where
             (λ k. omega (arith, k .1, first-least corners peak y h j (k .0)))
             (λ k. omega (arith, k .1))
 
-    pub crossed : (from to : ℕ) (t : Stretch) → EndsAt (getD corners i 0) (getD corners (suc i) 0) y to → BeginsAt (getD corners j 0) end y from
+    pub crossed : (from to : ℕ) (t : Stretch) → EndsAt (getD corners i 0) (getD corners (i + 1) 0) y to → BeginsAt (getD corners j 0) end y from
         → Bounded from to t → StretchOf (map unpacked corners) y t
     crossed from to t k₁ k₂ k₃ = record {
       rising = k₃ .in-order;
       few = omega (arith, k₃ .ends, k₁ .few);
       inside = λ x w.
           let u = k₃ .exactly x .0 w in
-          let up = k₁ .exactly x .1 (u .1) in
+          let up = subst (λ n. LeftOf (getD corners i 0) (getD corners n 0) y x) (add-one i) (k₁ .exactly x .1 (u .1)) in
           let down = k₂ x .1 (u .0) in
           inside (cell x y) .1 (inside-ends x (both-between x (omega (arith, u .1, k₁ .few)) up down) up down);
-      all = λ x n m. let v = ends-inside x (inside (cell x y) .0 m) in k₃ .exactly x .1 (k₂ x .0 (v .1), k₁ .exactly x .0 (v .0));
+      all = λ x n m. let v = ends-inside x (inside (cell x y) .0 m) in k₃ .exactly x .1
+          (k₂ x .0 (v .1), k₁ .exactly x .0 (subst (λ n. LeftOf (getD corners i 0) (getD corners n 0) y x) (sym (add-one i)) (v .0)));
     }

@@ -99,7 +99,7 @@ pub record RisesFrom (corners : List ℕ) (peak y i : ℕ) : Type 0 where
 pub record FallsFrom (corners : List ℕ) (peak y i : ℕ) : Type 0 where
   pub behind : peak ≤ i
   pub inside : suc i < length corners
-  pub low : getD corners (suc i) 0 / side < y
+  pub low : getD corners (i + 1) 0 / side < y
 
 -- the edge that rises from the first row
 pub record FirstRises (corners : List ℕ) (peak i : ℕ) : Type 0 where
@@ -140,7 +140,7 @@ pub record Only (corner : ℕ) (e : Edge) : Type 0 where
 pub record Rising (corners : List ℕ) (peak y : ℕ) (e : Edge) : Type 0 where
   pub before : e .place < peak
   pub rises : Rises corners y (e .place)
-  pub climbs : Climbs (getD corners (e .place) 0) (getD corners (suc (e .place)) 0) y 0 e
+  pub climbs : Climbs (getD corners (e .place) 0) (getD corners (e .place + 1) 0) y 0 e
 
 pub record Falling (corners : List ℕ) (peak y : ℕ) (e : Edge) : Type 0 where
   pub end : ℕ

@@ -3,13 +3,10 @@ use borrow.Author.Needs.{needs}
 use Rattle.stretch.proofs.next_left.Statement.{statement}
 use Rattle.stretch.proofs.next_left.Tie as tie
 use Prim.Native.Nat.{_+_, _<_}
-use native.Mathlib.Numerals.{add-one}
 use native.Mathlib.Omega.{arith}
 use denote.Ref.{now}
-use lib.ListN.{getD}
-use mathlib.Core.Path.{sym, subst}
 use Rattle.packed.specs.Packed.{side}
-use Rattle.stretch.specs.Stretch.{Peaked, Slope, OnLeft, Climbs, moved}
+use Rattle.stretch.specs.Stretch.{Peaked}
 use Rattle.stretch.proofs.Rowing.{row-small}
 use Rattle.stretch.proofs.Following.{next-row, falling-slope, left-small, left-on, falls-place, falls-from, left-of}
 
@@ -17,8 +14,7 @@ step-requires : tie.Need-step-requires
 step-requires c κs = let a = c .before .before .before in left-small _ _ _ (a .pre .0) _ (a .pre .2) (c .if1 .taken)
 
 returns : tie.Need-returns
-returns c = let a = c .before .before .before .before in
-    subst (OnLeft (now (a .args .corners)) (a .args .peak) (a .args .y + 1)) (sym (c .step .ensures)) (left-on _ _ _ (a .pre .0) _ (a .pre .2) (c .before .if1 .taken))
+returns c = let a = c .before .before .before .before in left-on _ _ _ (a .pre .0) _ (a .pre .2) (c .before .if1 .taken) _ (c .step .ensures)
 
 -- the row after y
 following : (c : tie.Else1) → let a = c .before .before .before in Peaked (now (a .args .corners)) (a .args .peak) (a .args .y + 1)
@@ -59,18 +55,12 @@ add-climb-2 : tie.Need-add-climb-2
 add-climb-2 c = omega (arith, few (c .before .before .before .before))
 
 climb-requires : tie.Need-climb-requires
-climb-requires c κs = let f = c .before .before in
-    let a = f .before .before .before .before .before in (
-      subst (λ n. Slope (getD (now (a .args .corners)) n 0) (getD (now (a .args .corners)) (f .falling .result) 0) (a .args .y + 1)) (sym (add-one (f .falling .result)))
-          (falling-slope _ _ _ (following (f .before .before)) _ _ (f .falling .ensures .2)),
-      omega arith,
-    )
+climb-requires c κs = let f = c .before .before in (falling-slope _ _ _ (following (f .before .before)) _ _ (f .falling .ensures .2), omega arith)
 
 returns-2 : tie.Need-returns-2
 returns-2 c = let f = c .before .before .before in
     let a = f .before .before .before .before .before in
-    left-of _ _ _ (following (f .before .before)) _ _ (f .falling .ensures .0) (f .falling .ensures .2) (omega (arith, a .pre .1, a .pre .0 .from-row)) _ (c .climb .ensures .0)
-    (subst (λ n. Climbs (getD (now (a .args .corners)) n 0) (getD (now (a .args .corners)) (f .falling .result) 0) (a .args .y + 1) moved (c .climb .result)) (add-one (f .falling .result)) (c .climb .ensures .1))
+    left-of _ _ _ (following (f .before .before)) _ _ (f .falling .ensures .0) (f .falling .ensures .2) (omega (arith, a .pre .1, a .pre .0 .from-row)) _ (c .climb .ensures .0) (c .climb .ensures .1)
 
 pub next-left-spec : {M : Type 1} → statement M
 next-left-spec =

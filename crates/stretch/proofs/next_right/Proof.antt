@@ -3,13 +3,10 @@ use borrow.Author.Needs.{needs}
 use Rattle.stretch.proofs.next_right.Statement.{statement}
 use Rattle.stretch.proofs.next_right.Tie as tie
 use Prim.Native.Nat.{_+_, _<_}
-use native.Mathlib.Numerals.{add-one}
 use native.Mathlib.Omega.{arith}
 use denote.Ref.{now}
-use lib.ListN.{getD}
-use mathlib.Core.Path.{sym, subst}
 use Rattle.packed.specs.Packed.{side}
-use Rattle.stretch.specs.Stretch.{Peaked, Slope, OnRight, Climbs}
+use Rattle.stretch.specs.Stretch.{Peaked}
 use Rattle.stretch.proofs.Rowing.{row-small}
 use Rattle.stretch.proofs.Following.{next-row, rising-slope, right-small, right-on, rises-from, right-of}
 
@@ -17,8 +14,7 @@ step-requires : tie.Need-step-requires
 step-requires c κs = let a = c .before .before .before in right-small _ _ _ (a .pre .0) _ (a .pre .2) (c .if1 .taken)
 
 returns : tie.Need-returns
-returns c = let a = c .before .before .before .before in
-    subst (OnRight (now (a .args .corners)) (a .args .peak) (a .args .y + 1)) (sym (c .step .ensures)) (right-on _ _ _ (a .pre .0) _ (a .pre .2) (c .before .if1 .taken))
+returns c = let a = c .before .before .before .before in right-on _ _ _ (a .pre .0) _ (a .pre .2) (c .before .if1 .taken) _ (c .step .ensures)
 
 -- the row after y
 following : (c : tie.Else1) → let a = c .before .before .before in Peaked (now (a .args .corners)) (a .args .peak) (a .args .y + 1)
@@ -52,18 +48,12 @@ add-climb-2 : tie.Need-add-climb-2
 add-climb-2 c = omega (arith, few (c .before .before .before))
 
 climb-requires : tie.Need-climb-requires
-climb-requires c κs = let r = c .before .before in
-    let a = r .before .before .before .before in (
-      subst (λ n. Slope (getD (now (a .args .corners)) (r .rising .result) 0) (getD (now (a .args .corners)) n 0) (a .args .y + 1)) (sym (add-one (r .rising .result)))
-          (rising-slope _ _ _ (following (r .before)) _ (r .rising .ensures .1)),
-      omega arith,
-    )
+climb-requires c κs = let r = c .before .before in (rising-slope _ _ _ (following (r .before)) _ (r .rising .ensures .1), omega arith)
 
 returns-2 : tie.Need-returns-2
 returns-2 c = let r = c .before .before .before in
     let a = r .before .before .before .before in
-    right-of _ _ _ (following (r .before)) _ (r .rising .ensures .0) (r .rising .ensures .1) (omega (arith, a .pre .1, a .pre .0 .from-row)) _ (c .climb .ensures .0)
-    (subst (λ n. Climbs (getD (now (a .args .corners)) (r .rising .result) 0) (getD (now (a .args .corners)) n 0) (a .args .y + 1) 0 (c .climb .result)) (add-one (r .rising .result)) (c .climb .ensures .1))
+    right-of _ _ _ (following (r .before)) _ (r .rising .ensures .0) (r .rising .ensures .1) (omega (arith, a .pre .1, a .pre .0 .from-row)) _ (c .climb .ensures .0) (c .climb .ensures .1)
 
 pub next-right-spec : {M : Type 1} → statement M
 next-right-spec =

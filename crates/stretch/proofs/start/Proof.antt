@@ -2,14 +2,9 @@
 use borrow.Author.Needs.{needs}
 use Rattle.stretch.proofs.start.Statement.{statement}
 use Rattle.stretch.proofs.start.Tie as tie
-use Prim.Native.Nat.{suc, _/_, _-_}
-use native.Mathlib.Numerals.{add-one}
 use native.Mathlib.Omega.{arith}
 use denote.Ref.{now}
-use lib.ListN.{getD}
-use mathlib.Core.Path.{sym, subst}
-use Rattle.packed.specs.Packed.{side}
-use Rattle.stretch.specs.Stretch.{Slope, Tall, Climbs}
+use Rattle.stretch.specs.Stretch.{Tall}
 use Rattle.stretch.proofs.Sides.{falling-last}
 use Rattle.stretch.proofs.Following.{rising-slope, falling-slope, right-of, left-of}
 
@@ -81,15 +76,10 @@ mul-climb-3 c = search needs
 shared-slice-read-climb-4 : tie.Need-shared-slice-read-climb-4
 shared-slice-read-climb-4 c = search needs
 
-rising : (c : tie.After-first-rising) → let a = c .before .before .before .before .before in
-    let r = c .first-rising .result in
-    Slope (getD (now (a .args .corners)) r 0) (getD (now (a .args .corners)) (suc r) 0) (getD (now (a .args .corners)) 0 0 / side)
-rising c = let a = c .before .before .before .before .before in rising-slope _ _ _ (a .pre) _ (c .first-rising .ensures .rises)
-
 climb-requires-2 : tie.Need-climb-requires-2
 climb-requires-2 c κs = let f = c .before .before .before .before .before in
     let a = f .before .before .before .before .before in
-    (subst (λ n. Slope (getD (now (a .args .corners)) (f .first-rising .result) 0) (getD (now (a .args .corners)) n 0) (getD (now (a .args .corners)) 0 0 / side)) (sym (add-one (f .first-rising .result))) (rising f), omega arith)
+    (rising-slope _ _ _ (a .pre) _ (f .first-rising .ensures .rises), omega arith)
 
 returns-2 : tie.Need-returns-2
 returns-2 c = let l = c .before .before .before in
@@ -97,8 +87,7 @@ returns-2 c = let l = c .before .before .before in
     let a = f .before .before .before .before .before in
     record {
       left = left-of _ _ _ (a .pre) _ _ (omega (arith, a .pre .peaks .inside)) (falling-last _ _ _ (a .pre) (tall (f .before))) (tall (f .before)) _ (l .climb .ensures .0) (l .climb .ensures .1);
-      right = right-of _ _ _ (a .pre) _ (f .first-rising .ensures .before) (f .first-rising .ensures .rises) (tall (f .before)) _ (c .climb2 .ensures .0)
-          (subst (λ n. Climbs (getD (now (a .args .corners)) (f .first-rising .result) 0) (getD (now (a .args .corners)) n 0) (getD (now (a .args .corners)) 0 0 / side) 0 (c .climb2 .result)) (add-one (f .first-rising .result)) (c .climb2 .ensures .1));
+      right = right-of _ _ _ (a .pre) _ (f .first-rising .ensures .before) (f .first-rising .ensures .rises) (tall (f .before)) _ (c .climb2 .ensures .0) (c .climb2 .ensures .1);
     }
 
 pub start-spec : {M : Type 1} → statement M
