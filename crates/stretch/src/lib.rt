@@ -155,40 +155,14 @@ fn next_left(corners: &[u32], peak: usize, y: u32, edge: Edge) -> Edge
     climb(i, corners[i + 1], corners[i], y + 1, MOVED)
 }
 
-// Both sides in the row after a corner's. A function of its own, long and called twice, so that it is not inlined and what most rows take is.
+// Both sides in the row after a corner's. A function of its own, and called twice, so that it is not inlined and what most rows take is.
 fn past_corner(corners: &[u32], peak: usize, y: u32, crossing: Crossing) -> Crossing
     requires { ⌜ Peaked (now corners) peak y × (y < getD (now corners) peak 0 / side) × Crosses (now corners) peak y crossing ⌝ }
     ensures { λ r. ⌜ Crosses (now (corners .entry)) peak (y + 1) r ⌝ }
 {
-    if y < crossing.right.last {
-        return Crossing {
-            left: next_left(corners, peak, y, crossing.left),
-            right: step(crossing.right),
-        };
-    }
     Crossing {
         left: next_left(corners, peak, y, crossing.left),
         right: next_right(corners, peak, y, crossing.right),
-    }
-}
-
-// The same crossing, field by field: what is handed to a call that is not inlined lies in memory, and only there is it laid there.
-fn copied(crossing: Crossing) -> Crossing
-    ensures { λ r. ⌜ r ≡ crossing ⌝ }
-{
-    Crossing {
-        left: Edge {
-            place: crossing.left.place,
-            last: crossing.left.last,
-            position: crossing.left.position,
-            slope: crossing.left.slope,
-        },
-        right: Edge {
-            place: crossing.right.place,
-            last: crossing.right.last,
-            position: crossing.right.position,
-            slope: crossing.right.slope,
-        },
     }
 }
 
@@ -204,12 +178,12 @@ pub fn next(corners: &[u32], peak: usize, y: u32, crossing: Crossing) -> Crossin
                 right: step(crossing.right),
             };
         }
-        return copied(past_corner(corners, peak, y, copied(crossing)));
+        return past_corner(corners, peak, y, crossing);
     }
     if corners[peak] / SIDE <= y {
         return crossing;
     }
-    copied(past_corner(corners, peak, y, copied(crossing)))
+    past_corner(corners, peak, y, crossing)
 }
 
 // The column that an edge crosses.
