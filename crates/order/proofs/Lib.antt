@@ -1,5 +1,7 @@
 -- Laws of the loops of this crate, and of points in row order as the code holds them.
 pub mod Passing
+pub mod Parts
+pub mod Halving
 pub mod Marking
 pub mod Writing
 pub mod InOrder

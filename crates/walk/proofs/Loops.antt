@@ -13,11 +13,12 @@ use Rattle.lattice.proofs.Places.{lt-or-le, nowhere, all-place}
 use Rattle.packed.specs.Packed.{side, cells, placed, unpacked}
 use Rattle.packed.proofs.RowOrder.{placed-injective, placed-order}
 use Rattle.order.specs.Row.{Holds, LeadsTo}
+use Rattle.order.proofs.Parts.{part}
 use Rattle.stretch.specs.Stretch.{cell, StretchOf, Peak}
 use Rattle.stretch.specs.declared.Stretch.{Stretch}
 use Rattle.packed.specs.Corners.{HullOf}
 use Rattle.walk.specs.Walk.{Walked, Lacking, FirstOf, Takes, Puts, Gap, FirstColumn}
-use Rattle.walk.proofs.Rows.{at-cell, part, row-next, holds-leads}
+use Rattle.walk.proofs.Rows.{at-cell, row-next, holds-leads}
 use Rattle.walk.proofs.Lending.{rest, puts-length, puts-used, rest-takes, puts-then}
 use Rattle.walk.proofs.Gaps.{Held, Passed, passed-none, passed-held, held-in, gap-here}
 use Rattle.walk.proofs.Filling.{full-row}

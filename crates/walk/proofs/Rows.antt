@@ -6,25 +6,25 @@ use Prim.Native.Nat.{ℕ, _+_, _-_, _*_, _/_, _%_, _≤_, _<_}
 use native.Mathlib.Omega.{arith}
 use borrow.Author.Count.{below-more}
 use lib.Dec.{eqb}
-use lib.ListN.{length, getD, take, drop, length-drop}
-use lib.Seq.{length-take-le, getD-take, getD-drop}
+use lib.ListN.{length, getD}
 use lib.IntN.{ℤ, pos, _+ℤ_}
 use lib.Signed.{_≤ℤ_, _<ℤ_}
 use mir.Syntax.{w32}
 use mir.Val.{SFits, ofZ}
 use Rattle.whole.proofs.Whole.{ring, quote, _≤ᶻ_, gap≤, gap<, _⊞_, _⋆≡_, linear≤, linear<, linear⊥, le-or-lt, antisymmetric, le-of-lt, le-of-equal}
-use Rattle.lattice.specs.Point.{Point, origin, InRange, points, point, In, All, Pairs, Before, row, column}
+use Rattle.lattice.specs.Point.{Point, InRange, points, point, In, All, Pairs, Before, row, column}
 use Rattle.lattice.specs.Hull.{InHull, Of}
 use Rattle.lattice.proofs.Lists.{either}
 use Rattle.lattice.proofs.HalfPlane.{point-equal}
 use Rattle.lattice.proofs.Places.{lt-or-le, place-in, in-place, place-all, pairs-place}
-use Rattle.lattice.proofs.Numbers.{points-at, points-drop, points-take}
+use Rattle.lattice.proofs.Numbers.{points-at}
 use Rattle.packed.specs.Packed.{Tells, side, moved, placed, unpacked}
 use Rattle.packed.proofs.Border.{moved-small}
 use Rattle.packed.proofs.Reading.{column-at}
 use Rattle.packed.proofs.Tests.{tells-equal, tells-as}
 use Rattle.packed.proofs.RowOrder.{placed-moved, order-placed, unpacked-in-range}
 use Rattle.order.specs.Row.{Holds, LeadsTo}
+use Rattle.order.proofs.Parts.{part, part-length, part-at}
 use Rattle.order.proofs.RowLaws.{Running}
 use Rattle.stretch.specs.Stretch.{cell, StretchOf, Peak}
 use Rattle.stretch.specs.declared.Stretch.{Stretch}
@@ -124,46 +124,25 @@ holds-leads l y begin end h = record {
 
 -- ---- the part of a list that holds the points of a row
 module _ (list : List ℤ) (begin end : ℕ) where
-  abbrev pub part : List ℤ
-  part = take (2 * end - 2 * begin) (drop (2 * begin) list)
-
-  part-points : points part ≡ take (end - begin) (drop begin (points list))
-  part-points =
-      let e : 2 * end - 2 * begin ≡ 2 * (end - begin) = omega arith in
-      ap (λ n. points (take n (drop (2 * begin) list))) e
-      ∙ points-take (end - begin) (drop (2 * begin) list)
-      ∙ ap (take (end - begin)) (points-drop begin list)
-
   module _ (y : ℤ) (h : Holds (points list) y begin end) where
-    pub part-length : length (points part) ≡ end - begin
-    part-length =
-        ap length part-points
-        ∙ length-take-le (end - begin) (drop begin (points list)) (omega (arith, h .rising, h .inside, length-drop begin (points list)))
-
-    pub part-at : (i : ℕ) → i < end - begin → point (points part) i ≡ point (points list) (begin + i)
-    part-at i l =
-        ap (λ m. point m i) part-points
-        ∙ getD-take (end - begin) (drop begin (points list)) i origin l
-        ∙ getD-drop begin (points list) i origin
-
-    pub part-in : (p : Point) → In p (points part) → In p (points list) × (p .y ≡ y)
+    pub part-in : (p : Point) → In p (points (part list begin end)) → In p (points list) × (p .y ≡ y)
     part-in p m =
-        let r = in-place (points part) p m in
-        let l : r .0 < end - begin = omega (arith, r .1, part-length) in
-        let e = r .2 ∙ part-at (r .0) l in (
+        let r = in-place (points (part list begin end)) p m in
+        let l : r .0 < end - begin = omega (arith, r .1, part-length list begin end (h .inside)) in
+        let e = r .2 ∙ part-at list begin end (r .0) l in (
           subst (λ q. In q (points list)) (sym e) (place-in (points list) (begin + r .0) (omega (arith, l, h .inside))),
           ap (λ q. q .y) e ∙ h .within (begin + r .0) (omega arith) (omega (arith, l)),
         )
 
-    pub in-part : (p : Point) → In p (points list) → p .y ≡ y → In p (points part)
+    pub in-part : (p : Point) → In p (points list) → p .y ≡ y → In p (points (part list begin end))
     in-part p m e =
         let r = in-place (points list) p m in
         let f : (point (points list) (r .0)) .y ≡ y = ap (λ q. q .y) (sym (r .2)) ∙ e in
         let u : begin ≤ r .0 = either (lt-or-le (r .0) begin) (λ k. absurd (never (h .before (r .0) k) f)) (λ k. k) in
         let v : r .0 < end = either (lt-or-le (r .0) end) (λ k. k) (λ k. absurd (never (h .after (r .0) k (r .1)) (sym f))) in
         let d : begin + (r .0 - begin) ≡ r .0 = omega (arith, u) in
-        subst (λ q. In q (points part)) (part-at (r .0 - begin) (omega (arith, u, v)) ∙ ap (point (points list)) d ∙ sym (r .2))
-        (place-in (points part) (r .0 - begin) (omega (arith, u, v, part-length)))
+        subst (λ q. In q (points (part list begin end))) (part-at list begin end (r .0 - begin) (omega (arith, u, v)) ∙ ap (point (points list)) d ∙ sym (r .2))
+        (place-in (points (part list begin end)) (r .0 - begin) (omega (arith, u, v, part-length list begin end (h .inside))))
       where
         never : {a b : ℤ} → a <ℤ b → a ≡ b → ⊥
         never {a} {b} k e = linear⊥ (a ∷ b ∷ []) (gap< k ⊞ pos 1 ⋆≡ sym e) (search quote depth 20) tt
@@ -206,6 +185,6 @@ row-points c list y begin end s h f order inside range = record {
 
     later : (i j : ℕ) → i < j → j < length (points (part list begin end)) → Before (at i) (at j)
     later i j u v =
-        let n = part-length list begin end (placed y) h in
-        subst₂ Before (sym (part-at list begin end (placed y) h i (omega (arith, u, v, n)))) (sym (part-at list begin end (placed y) h j (omega (arith, v, n))))
+        let n = part-length list begin end (h .inside) in
+        subst₂ Before (sym (part-at list begin end i (omega (arith, u, v, n)))) (sym (part-at list begin end j (omega (arith, v, n))))
         (pairs-place Before (points list) order (begin + i) (begin + j) (omega arith) (omega (arith, v, n, h .inside)))

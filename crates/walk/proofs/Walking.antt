@@ -23,11 +23,12 @@ use Rattle.packed.proofs.Border.{moved-small}
 use Rattle.packed.proofs.KeyLaws.{unpacked-at, in-unpacked}
 use Rattle.packed.proofs.RowOrder.{unpacked-in-range, unpacked-before, placed-order, placed-grows}
 use Rattle.order.specs.Row.{Holds}
+use Rattle.order.proofs.Parts.{part}
 use Rattle.stretch.specs.Stretch.{StretchOf, Peak, Peaked}
 use Rattle.stretch.specs.declared.Stretch.{Stretch}
 use Rattle.packed.specs.Corners.{HullOf, Cornered}
 use Rattle.walk.specs.Walk.{Walked, Lacking, RowPoints, Gap}
-use Rattle.walk.proofs.Rows.{part, part-in, in-part, in-cell, row-next, next-row, row-points}
+use Rattle.walk.proofs.Rows.{part-in, in-part, in-cell, row-next, next-row, row-points}
 
 -- ---- the points that have P in rows before y
 abbrev pub Upto : (Point → Type 0) → ℕ → Point → Type 0

@@ -1,85 +1,79 @@
--- `order::find_outside` meets its contract: a turn of the loop passes one point more. Assumes nothing.
-use Prim.Native.Nat.{ℕ, _<_, _-_}
-use mathlib.Core.Path.{_≡_, sym, subst}
-use mathlib.Core.List.{List}
+-- `order::find_outside` meets its contract: a turn of the loop leaves one half. Assumes nothing.
+use Prim.Native.Nat.{_-_, _*_, _≤_, _<_}
 use native.Mathlib.Omega.{arith}
 use denote.Ref.{now}
 use lib.ListN.{length}
-use lib.IntN.{ℤ}
-use Rattle.lattice.specs.Point.{InRange, points, point}
-use Rattle.lattice.specs.Refusal.{AtPoint, OutOfRange}
+use Rattle.lattice.specs.Point.{InRange, points}
 use Rattle.lattice.proofs.Numbers.{points-length}
 use Rattle.packed.proofs.Tests.{tells-yes, tells-no}
-use Rattle.packed.proofs.Reading.{read-at, read-point}
-use Rattle.order.proofs.Passing.{Passing, passing-none, passing-more, passing-stops, passing-ends}
+use Rattle.order.proofs.Halving.{Halving, halving-all, halving-later, halving-earlier, halving-one}
 use Rattle.order.proofs.find_outside.Statement.{statement}
 use Rattle.order.proofs.find_outside.Tie as tie
 
 abbrev Inv-loop : tie.InvT-loop
-Inv-loop list n i₀ i = Passing (length (points list)) (AtPoint OutOfRange (points list)) i
+Inv-loop list low₀ high₀ low high = Halving InRange (points list) low high
 
 abbrev μ-loop : tie.MeasureT-loop
-μ-loop list n i₀ i = n - i
+μ-loop list low₀ high₀ low high = high - low
 
 loop-holds : tie.Need-loop-holds Inv-loop μ-loop
-loop-holds c = passing-none _ _
+loop-holds c = halving-all InRange (now (c .args .list)) (c .pre) _ (omega (arith, points-length (now (c .args .list))))
 
-mul-x : tie.Need-mul-x Inv-loop μ-loop
-mul-x c = omega arith
+-- the list has fewer bytes than the machine counts, and what is left lies in it
+short : (a : tie.Start Inv-loop μ-loop) → length (now (a .args .list)) < 4611686018427387904
+short a = omega arith
 
-mul-x-2 : tie.Need-mul-x-2 Inv-loop μ-loop
-mul-x-2 c = omega arith
+inside : (l : tie.At-loop Inv-loop μ-loop) → (2 * l .loop .high ≤ length (now (l .before .args .list))) × (l .loop .low < l .loop .high)
+inside l = (omega (arith, l .loop .inv .upto, points-length (now (l .before .args .list))), l .loop .inv .some)
 
-shared-slice-copy-out-x : tie.Need-shared-slice-copy-out-x Inv-loop μ-loop
-shared-slice-copy-out-x c = omega arith
+add-loop : tie.Need-add-loop Inv-loop μ-loop
+add-loop c = omega (arith, inside c, short (c .before))
 
-mul-y : tie.Need-mul-y Inv-loop μ-loop
-mul-y c = omega arith
+sub-middle : tie.Need-sub-middle Inv-loop μ-loop
+sub-middle c = omega (arith, inside (c .before))
 
-add-y : tie.Need-add-y Inv-loop μ-loop
-add-y c = omega arith
+add-middle : tie.Need-add-middle Inv-loop μ-loop
+add-middle c = omega (arith, inside (c .before), short (c .before .before))
 
-mul-y-2 : tie.Need-mul-y-2 Inv-loop μ-loop
-mul-y-2 c = omega arith
+mul-all-inside : tie.Need-mul-all-inside Inv-loop μ-loop
+mul-all-inside c = omega (arith, inside (c .before), short (c .before .before))
 
-shared-slice-copy-out-y : tie.Need-shared-slice-copy-out-y Inv-loop μ-loop
-shared-slice-copy-out-y c = omega arith
+mul-all-inside-2 : tie.Need-mul-all-inside-2 Inv-loop μ-loop
+mul-all-inside-2 c = omega (arith, inside (c .before), short (c .before .before))
 
--- in a turn, after both coordinates are read: the list, the place, and that the point read is the one at that place
-abbrev list-of : tie.After-y Inv-loop μ-loop → List ℤ
-list-of c = now (c .before .before .before .before .args .list)
+mul-all-inside-3 : tie.Need-mul-all-inside-3 Inv-loop μ-loop
+mul-all-inside-3 c = omega (arith, inside (c .before), short (c .before .before))
 
-abbrev place : tie.After-y Inv-loop μ-loop → ℕ
-place c = c .before .before .before .loop .i
+sub-all-inside : tie.Need-sub-all-inside Inv-loop μ-loop
+sub-all-inside c = omega arith
 
-inside : (c : tie.After-y Inv-loop μ-loop) → place c < length (points (list-of c))
-inside c = omega (arith, points-length (list-of c), c .before .before .loop-test .taken)
+part-all-inside-start : tie.Need-part-all-inside-start Inv-loop μ-loop
+part-all-inside-start c = omega arith
 
-is-point : (c : tie.After-y Inv-loop μ-loop) → read-at (list-of c) (place c) ≡ point (points (list-of c)) (place c)
-is-point c =
-    read-point (list-of c) (place c) (record { sfits = c .before .x .given }) (record { sfits = c .y .given }) (inside c)
+part-all-inside-end : tie.Need-part-all-inside-end Inv-loop μ-loop
+part-all-inside-end c = omega (arith, inside (c .before))
 
-in-range-requires : tie.Need-in-range-requires Inv-loop μ-loop
-in-range-requires c κs = omega arith
-
-add-i : tie.Need-add-i Inv-loop μ-loop
-add-i c = omega arith
+all-inside-requires : tie.Need-all-inside-requires Inv-loop μ-loop
+all-inside-requires c κs = tt
 
 loop-less : tie.Need-loop-less Inv-loop μ-loop
 loop-less c = omega arith
 
 loop-again : tie.Need-loop-again Inv-loop μ-loop
-loop-again c = let y = c .before .before in
-    passing-more _ _ _ (y .before .before .before .loop .inv) (inside y)
-    (λ p. p .1 (subst InRange (is-point y) (tells-yes (c .if1 .taken) (c .before .in-range .ensures))))
+loop-again c = let l = c .before .before .before .before in
+    halving-later InRange _ _ _ (l .loop .inv) _ (omega (arith, c .before .before .before .loop-test .taken)) (omega (arith, inside l, c .before .before .before .loop-test .taken))
+    (tells-yes (c .if1 .taken) (c .before .all-inside .ensures))
+
+loop-less-2 : tie.Need-loop-less-2 Inv-loop μ-loop
+loop-less-2 c = omega arith
+
+loop-again-2 : tie.Need-loop-again-2 Inv-loop μ-loop
+loop-again-2 c = let l = c .before .before .before .before in
+    halving-earlier InRange _ _ _ (l .loop .inv) _ (omega (arith, c .before .before .before .loop-test .taken)) (omega (arith, inside l, c .before .before .before .loop-test .taken))
+    (tells-no (c .if1 .left) (c .before .all-inside .ensures))
 
 returns : tie.Need-returns Inv-loop μ-loop
-returns c = let y = c .before .before in
-    passing-stops _ _ _ (y .before .before .before .loop .inv)
-    (inside y, λ r. tells-no (c .if1 .left) (c .before .in-range .ensures) (subst InRange (sym (is-point y)) r))
-
-returns-2 : tie.Need-returns-2 Inv-loop μ-loop
-returns-2 c = passing-ends _ _ _ (c .before .loop .inv) (omega (arith, points-length (now (c .before .before .args .list))))
+returns c = halving-one InRange (now (c .before .before .args .list)) _ _ (c .before .loop .inv) (omega (arith, c .loop-test .left))
 
 pub find-outside-spec : {M : Type 1} → statement M
 find-outside-spec =
@@ -88,16 +82,18 @@ find-outside-spec =
     Inv-loop
     μ-loop
     loop-holds
-    mul-x
-    mul-x-2
-    shared-slice-copy-out-x
-    mul-y
-    add-y
-    mul-y-2
-    shared-slice-copy-out-y
-    in-range-requires
-    add-i
+    add-loop
+    sub-middle
+    add-middle
+    mul-all-inside
+    mul-all-inside-2
+    mul-all-inside-3
+    sub-all-inside
+    part-all-inside-start
+    part-all-inside-end
+    all-inside-requires
     loop-less
     loop-again
-    returns
-    returns-2)
+    loop-less-2
+    loop-again-2
+    returns)

@@ -9,7 +9,7 @@ use Rattle.lattice.specs.Point.{InRange, points}
 use Rattle.lattice.specs.Refusal.{AtPoint, OutOfRange}
 use Rattle.lattice.proofs.Numbers.{points-length}
 use Rattle.lattice.proofs.Places.{all-place}
-use Rattle.packed.proofs.Tests.{tells-yes}
+use Rattle.packed.proofs.Tests.{tells-yes, tells-no}
 use Rattle.order.proofs.Passing.{passing-all}
 
 all-inside-requires : tie.Need-all-inside-requires
@@ -21,7 +21,7 @@ returns c = let l = now (c .before .before .args .list) in
     (λ j k p. p .1 (all-place InRange (points l) (tells-yes (c .if1 .taken) (c .before .all-inside .ensures)) j k))
 
 find-outside-requires : tie.Need-find-outside-requires
-find-outside-requires c κs = search needs
+find-outside-requires c κs = tells-no (c .if1 .left) (c .before .all-inside .ensures)
 
 returns-2 : tie.Need-returns-2
 returns-2 c = search needs
