@@ -1,7 +1,7 @@
 -- From what is looked at to refusals 1, 2, 3, 8, 9 and 10. Assumes nothing.
-use mathlib.Core.Path.{_≡_, refl, sym, ap, subst}
+use mathlib.Core.Path.{_≡_, refl, sym, subst}
 use mathlib.Core.Logic.{_⊎_, inl, inr}
-use mathlib.Core.List.{List, map}
+use mathlib.Core.List.{List}
 use Prim.Native.Nat.{ℕ, _≤_, _<_}
 use native.Mathlib.Omega.{arith}
 use lib.ListN.{length}
@@ -10,7 +10,6 @@ use Rattle.lattice.specs.Point.{Point, most, points}
 use Rattle.lattice.specs.Hull.{CornerList}
 use Rattle.lattice.specs.Refusal.{Table, accepted, _when_else_, Gives, AtPoint, Strays, Odd, OutOfRange, Misplaced, rebuildRows}
 use Rattle.lattice.proofs.Tables.{whole-first, whole-never}
-use Rattle.packed.specs.Packed.{unpacked}
 use Rattle.order.specs.First.{FirstBelow}
 use Rattle.order.proofs.Passing.{first-here, never-below}
 use Rattle.rebuild.specs.declared.Rebuilt.{Rebuilt}

@@ -8,7 +8,7 @@ use lib.IntN.{ℤ, pos}
 use lib.Signed.{_<ℤ_}
 use Rattle.lattice.specs.Point.{Point, InRange, most, points, point, In, All, Before}
 use Rattle.lattice.specs.Hull.{turn}
-use Rattle.lattice.specs.Refusal.{Table, accepted, Gives, AtPoint, Strays, Misplaced, rebuildRows}
+use Rattle.lattice.specs.Refusal.{Table, accepted, Gives, AtPoint, Strays, Misplaced}
 use Rattle.packed.specs.Packed.{side, packed, unpacked}
 use Rattle.order.specs.Keys.{Below}
 use Rattle.order.specs.First.{FirstBelow}
