@@ -10,9 +10,9 @@ use Rattle.whole.proofs.Whole.{quote, _≤ᶻ_, gap≤, _⊞_, _⊠_, _⋆≡_,
 use Rattle.lattice.proofs.Lists.{either}
 use Rattle.lattice.proofs.Places.{lt-or-le}
 use Rattle.packed.specs.Packed.{side, cells}
-use Rattle.stretch.specs.Stretch.{Slope, EndsAt, BeginsAt, unit, moved, slopeOf, positionOf, columnOf, Climbs}
+use Rattle.stretch.specs.Stretch.{Slope, unit, moved, slopeOf, positionOf, columnOf, Climbs}
 use Rattle.stretch.specs.declared.Edge.{Edge}
-use Rattle.stretch.proofs.Counting.{weighed, passed, rest, some-rows, weighed-small, ends-at, begins-at}
+use Rattle.stretch.proofs.Counting.{EndsAt, BeginsAt, weighed, passed, rest, some-rows, weighed-small, ends-at, begins-at}
 
 in-order : {m n : ℕ} → m ≤ n → pos m ≤ᶻ pos n
 in-order {m} {n} h = record { le = le→leb m n h }

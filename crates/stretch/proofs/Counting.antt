@@ -15,7 +15,19 @@ use Rattle.lattice.proofs.Lists.{either}
 use Rattle.lattice.proofs.Places.{lt-or-le}
 use Rattle.packed.specs.Packed.{side, placed, unpacked}
 use Rattle.packed.proofs.RowOrder.{before-unpacked, unpacked-before}
-use Rattle.stretch.specs.Stretch.{cell, LeftOf, Slope, EndsAt, BeginsAt}
+use Rattle.stretch.specs.Stretch.{cell, Slope}
+
+-- the point of row y in column x is to the left of the edge from a to b, or on it
+abbrev pub LeftOf : ℕ → ℕ → ℕ → ℕ → Type 0
+LeftOf a b y x = pos 0 ≤ℤ turn (unpacked a) (unpacked b) (cell x y)
+
+-- the edge from a to b has on its left, or on it, the columns of row y below r; from r on
+pub record EndsAt (a b y r : ℕ) : Type 0 where
+  pub few : r ≤ side
+  pub exactly : (x : ℕ) → LeftOf a b y x ↔ x < r
+
+abbrev pub BeginsAt : ℕ → ℕ → ℕ → ℕ → Type 0
+BeginsAt a b y r = (x : ℕ) → LeftOf a b y x ↔ r ≤ x
 
 -- ---- columns on one side of a division
 at-most : (x bound steep : ℕ) → 0 < steep → x * steep ≤ bound ↔ x < bound / steep + 1

@@ -19,9 +19,9 @@ use Rattle.lattice.proofs.Polygon.{InsideEnds}
 use Rattle.packed.specs.Packed.{side, cells, placed, unpacked}
 use Rattle.packed.proofs.RowOrder.{unpacked-before, placed-order, order-placed, placed-grows}
 use Rattle.packed.proofs.KeyLaws.{unpacked-at, unpacked-in}
-use Rattle.stretch.specs.Stretch.{cell, Bounded, LeftOf, EndsAt, BeginsAt, StretchOf, Peaked, Tall, After, Rises, Falls, RisesFrom, FallsFrom, FirstRises}
+use Rattle.stretch.specs.Stretch.{cell, Bounded, StretchOf, Peaked, Tall, After, Rises, Falls, RisesFrom, FallsFrom, FirstRises}
 use Rattle.stretch.specs.declared.Stretch.{Stretch}
-use Rattle.stretch.proofs.Counting.{at-foot, at-head}
+use Rattle.stretch.proofs.Counting.{LeftOf, EndsAt, BeginsAt, at-foot, at-head}
 use Rattle.stretch.proofs.Rowing.{Between, in-hull, cells-between, between-cells}
 
 -- ---- an edge u v with a, b on its left, and p between their rows on the left of the way from a up to b, down to b

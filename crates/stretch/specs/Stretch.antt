@@ -4,10 +4,8 @@ use mathlib.Core.Logic.{_⊎_, _↔_}
 use mathlib.Core.List.{List, map}
 use Prim.Native.Nat.{ℕ, suc, _+_, _-_, _*_, _/_, _%_, _≤_, _<_}
 use lib.ListN.{length, getD}
-use lib.IntN.{pos}
-use lib.Signed.{_≤ℤ_}
 use Rattle.lattice.specs.Point.{Point}
-use Rattle.lattice.specs.Hull.{turn, InHull, Of, CornerList}
+use Rattle.lattice.specs.Hull.{InHull, Of, CornerList}
 use Rattle.packed.specs.Packed.{side, cells, placed, unpacked}
 use Rattle.stretch.specs.declared.Stretch.{Stretch}
 use Rattle.stretch.specs.declared.Edge.{Edge}
@@ -28,10 +26,6 @@ pub record Bounded (begin end : ℕ) (s : Stretch) : Type 0 where
   pub ends : s .to ≡ end
   pub exactly : (x : ℕ) → Within s x ↔ ((begin ≤ x) × (x < end))
 
--- the point of row y in column x is to the left of the edge from a to b, or on it
-abbrev pub LeftOf : ℕ → ℕ → ℕ → ℕ → Type 0
-LeftOf a b y x = pos 0 ≤ℤ turn (unpacked a) (unpacked b) (cell x y)
-
 -- the way from a up to b crosses row y
 pub record Slope (a b y : ℕ) : Type 0 where
   pub a-below : a < cells
@@ -39,14 +33,6 @@ pub record Slope (a b y : ℕ) : Type 0 where
   pub low : a / side ≤ y
   pub high : y ≤ b / side
   pub steep : a / side < b / side
-
--- the edge from a to b has on its left, or on it, the columns of row y below r; from r on
-pub record EndsAt (a b y r : ℕ) : Type 0 where
-  pub few : r ≤ side
-  pub exactly : (x : ℕ) → LeftOf a b y x ↔ x < r
-
-abbrev pub BeginsAt : ℕ → ℕ → ℕ → ℕ → Type 0
-BeginsAt a b y r = (x : ℕ) → LeftOf a b y x ↔ r ≤ x
 
 -- the stretch has exactly the columns in which row y has a point of the hull of c
 pub record StretchOf (c : List Point) (y : ℕ) (s : Stretch) : Type 0 where
