@@ -1,6 +1,2 @@
--- Laws of the scan as the code runs it.
-pub mod Popping
-pub mod Ways
-pub mod Rows
-pub mod Climbing
+-- From what is found to what Hull promises.
 pub mod Hulling

@@ -1,7 +1,7 @@
 -- One table of refusals behind another: a call that looks at more rows after those of a call that it contains; and what a list is like
 -- that no row refuses. Assumes nothing.
 use mathlib.Core.Path.{_≡_, refl, sym, subst}
-use mathlib.Core.Logic.{inl, inr}
+use mathlib.Core.Logic.{_⊎_, inl, inr}
 use mathlib.Core.List.{List}
 use Prim.Native.Nat.{ℕ, suc, _≤_}
 use native.Mathlib.Omega.{arith}
@@ -43,6 +43,16 @@ pub passed-before : (t later : Table) → Numbered t → (i n j : ℕ) → Gives
 passed-before accepted later m i n j h g = g
 passed-before (k when P else t) later m i n j (inl h) g = absurd (unnumbered k (h .0) (m .0))
 passed-before (k when P else t) later m i n j (inr h) g = inr (h .0, passed-before t later (m .1) i n j (h .1) g)
+
+-- what both give is what the first give, or they give nothing and it is what the later give
+pub first-or-later : (t later : Table) → Numbered t → (n i : ℕ) → Gives (t then later) n i → Gives t n i ⊎ (Gives t 0 0 × Gives later n i)
+first-or-later accepted later m n i h = inr ((refl, refl), h)
+first-or-later (k when P else t) later m n i (inl h) = inl (inl h)
+first-or-later (k when P else t) later m n i (inr (passes, h)) = behind (first-or-later t later (m .1) n i h)
+  where
+    behind : Gives t n i ⊎ (Gives t 0 0 × Gives later n i) → Gives (k when P else t) n i ⊎ (Gives (k when P else t) 0 0 × Gives later n i)
+    behind (inl g) = inl (inr (passes, g))
+    behind (inr g) = inr (inr (passes, g .0), g .1)
 
 -- ---- a row for the call as a whole
 pub whole-first : {P : Type 0} → P → First (Whole P) 0

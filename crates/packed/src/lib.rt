@@ -14,6 +14,9 @@ pub const LEAST: i32 = -8192;
 
 pub const GREATEST: i32 = 8191;
 
+// How many points the range has.
+pub const CELLS: usize = 268435456;
+
 // A coordinate is moved by OFFSET to start at 0, and has SIDE values.
 const OFFSET: i32 = 8192;
 

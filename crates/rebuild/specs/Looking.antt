@@ -11,7 +11,7 @@ use Rattle.lattice.specs.Hull.{turn}
 use Rattle.lattice.specs.Refusal.{Table, accepted, Gives, AtPoint, Strays, Misplaced}
 use Rattle.packed.specs.Packed.{side, packed, unpacked}
 use Rattle.order.specs.Keys.{Below}
-use Rattle.order.specs.First.{FirstBelow}
+use Rattle.range.specs.First.{FirstBelow}
 use Rattle.stretch.specs.Stretch.{StretchOf}
 use Rattle.stretch.specs.declared.Stretch.{Stretch}
 use Rattle.packed.specs.Corners.{Cornered}
