@@ -218,10 +218,10 @@ without-limit list ordered corners limit answer ordered′ corners′ large h = 
   result = h .result;
 }
   where
-    by-rows : Gives (hullRows list ordered corners accepted) (answer .number) (answer .place)
+    by-rows : ((answer .number ≡ 0 → ⊥) × Gives (hullRows list ordered corners accepted) (answer .number) (answer .place))
         ⊎ (Gives (hullRows list ordered corners accepted) 0 0 × Gives (missingRow list limit) (answer .number) (answer .place))
         → Gives (hullRows list ordered corners accepted) (answer .number) (answer .place)
-    by-rows (inl g) = g
+    by-rows (inl g) = g .1
     by-rows (inr (g, inl (e, w))) =
         let more = w .here .1 in
         absurd (omega (arith, large, more .more, few-missing list (hull-passes list ordered corners 0 g) (more .missing) (more .listed)))

@@ -1,2 +1,3 @@
--- From what is found to what Hull promises.
+-- From what is found to what Hull promises, and what its rooms hold.
 pub mod Hulling
+pub mod Standing

@@ -1,4 +1,4 @@
--- A grain as Verdict and Report work on it: its points in row order and its corners, packed; and their answers to it. Assumes nothing.
+-- The answers of Verdict and Report to an accepted grain. Assumes nothing.
 use mathlib.Core.Path.{_≡_}
 use mathlib.Core.Logic.{_⊎_}
 use mathlib.Core.List.{List, map}
@@ -12,15 +12,6 @@ use Rattle.order.specs.Keys.{Below}
 use Rattle.report.specs.declared.Judged.{Judged}
 use Rattle.report.specs.declared.Reported.{Reported}
 use Rattle.report.specs.Report.{no, yes}
-
-pub record Grain (keys stack : List ℕ) : Type 0 where
-  pub order : Pairs Before (map unpacked keys)
-  pub below : Below stack
-  pub corner : CornerList (map unpacked keys) (map unpacked stack)
-
--- the missing points of packed points
-abbrev pub MissingOf : List ℕ → Point → Type 0
-MissingOf keys = Missing (map unpacked keys)
 
 -- accepted answers
 abbrev pub judged : ℕ → ℕ → ℕ → Point → Judged
