@@ -50,8 +50,12 @@ module _ (list : List ℤ) where
     keys-unpacked = unpacked-all (points list) range
 
 -- a corner list
-pub outline-cornered : (corners : List ℤ) → Outline corners → Cornered (keysOf corners)
-outline-cornered corners h = record {
-  below = keys-below corners (h .range);
-  listed = subst (λ c. CornerList c c) (sym (keys-unpacked corners (h .range))) (h .listed);
-}
+module _ {corners : List ℤ} (h : Outline corners) where
+  pub corner-readable : (i : ℕ) → i < length (keysOf corners) → (i < length (points corners)) × InRange (point (points corners) i)
+  corner-readable = readable corners (h .range)
+
+  pub outline-cornered : Cornered (keysOf corners)
+  outline-cornered = record {
+    below = keys-below corners (h .range);
+    listed = subst (λ c. CornerList c c) (sym (keys-unpacked corners (h .range))) (h .listed);
+  }

@@ -21,9 +21,9 @@ use Rattle.stretch.specs.Stretch.{cell, Peaked, HasRow}
 use Rattle.stretch.proofs.Counting.{cell-before, before-cell, is-cell-before, is-before-cell}
 
 -- each corner can be read
-pub corner-there : {corners : List ℤ} {peak y : ℕ} → HasRow corners peak y → (i : ℕ) → i < length (keysOf corners)
+pub corner-in-row : {corners : List ℤ} {peak y : ℕ} → HasRow corners peak y → (i : ℕ) → i < length (keysOf corners)
     → (i < length (points corners)) × InRange (point (points corners) i)
-corner-there {corners} h i l = readable corners (h .range) i l
+corner-in-row {corners} h i l = readable corners (h .range) i l
 
 -- they are a corner list
 pub cornered-of : {corners : List ℕ} {peak y : ℕ} → Peaked corners peak y → Cornered corners

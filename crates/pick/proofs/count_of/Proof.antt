@@ -5,7 +5,7 @@ use borrow.Author.Needs.{needs}
 use denote.Ref.{now}
 use lib.ListN.{length}
 use Rattle.packed.specs.Corners.{Cornered, keysOf}
-use Rattle.packed.proofs.KeysOf.{keys-length, readable, outline-cornered}
+use Rattle.packed.proofs.KeysOf.{keys-length, corner-readable, outline-cornered}
 use Rattle.pick.proofs.Sums.{Summed, none-counted, summed-none, summed-small, summed-more, summed-order, summed-half, counted-numbers}
 use Rattle.pick.proofs.count_of.Statement.{statement}
 use Rattle.pick.proofs.count_of.Tie as tie
@@ -18,11 +18,11 @@ abbrev μ-loop : tie.MeasureT-loop
 
 returns : tie.Need-returns Inv-loop μ-loop
 returns c = let a = c .before in
-    counted-numbers (a .pre) _ (none-counted _ (outline-cornered _ (a .pre)) (omega (arith, keys-length (now (a .args .corners)))))
+    counted-numbers (a .pre) _ (none-counted _ (outline-cornered (a .pre)) (omega (arith, keys-length (now (a .args .corners)))))
 
 -- packed, the corners are a corner list, and there are some
 listed : (c : tie.Else1 Inv-loop μ-loop) → Cornered (keysOf (now (c .before .args .corners)))
-listed c = outline-cornered _ (c .before .pre)
+listed c = outline-cornered (c .before .pre)
 
 some : (c : tie.Else1 Inv-loop μ-loop) → 0 < length (keysOf (now (c .before .args .corners)))
 some c = omega (arith, keys-length (now (c .before .args .corners)))
@@ -32,7 +32,7 @@ sub-key-at c = search needs
 
 key-at-requires : tie.Need-key-at-requires Inv-loop μ-loop
 key-at-requires c κs = let a = c .before in
-    readable (now (a .args .corners)) (a .pre .range) _ (omega (arith, some c, keys-length (now (a .args .corners))))
+    corner-readable (a .pre) _ (omega (arith, some c, keys-length (now (a .args .corners))))
 
 no-edge-requires : tie.Need-no-edge-requires Inv-loop μ-loop
 no-edge-requires c κs = search needs
@@ -47,7 +47,7 @@ inside c = omega (arith, keys-length (now (c .before .before .before .before .be
 
 key-at-requires-2 : tie.Need-key-at-requires-2 Inv-loop μ-loop
 key-at-requires-2 c κs = let a = c .before .before .before .before .before in
-    readable (now (a .args .corners)) (a .pre .range) _ (inside c)
+    corner-readable (a .pre) _ (inside c)
 
 with-edge-requires : tie.Need-with-edge-requires Inv-loop μ-loop
 with-edge-requires c κs = let l = c .before .before in

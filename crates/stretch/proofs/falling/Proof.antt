@@ -5,7 +5,7 @@ use native.Mathlib.Omega.{arith}
 use Prim.Native.Nat.{_<_}
 use Rattle.packed.specs.Corners.{keysOf}
 use Rattle.stretch.specs.Stretch.{FallsFrom}
-use Rattle.stretch.proofs.Rowing.{corner-there}
+use Rattle.stretch.proofs.Rowing.{corner-in-row}
 use Rattle.stretch.proofs.Sides.{falls-past, falls-on, falls-here}
 
 abbrev Inv-loop : tie.InvT-loop
@@ -18,7 +18,7 @@ loop-holds : tie.Need-loop-holds Inv-loop μ-loop
 loop-holds c = c .pre .1
 
 key-at-requires : tie.Need-key-at-requires Inv-loop μ-loop
-key-at-requires c κs = corner-there (c .before .pre .0) (c .loop .i) (omega (arith, c .loop .inv .inside))
+key-at-requires c κs = corner-in-row (c .before .pre .0) (c .loop .i) (omega (arith, c .loop .inv .inside))
 
 past : (c : tie.Then1 Inv-loop μ-loop) → let l = c .before .before in l .before .args .peak < l .loop .i
 past c = let l = c .before .before in

@@ -2,14 +2,14 @@
 use Rattle.stretch.proofs.first_rising.Statement.{statement}
 use Rattle.stretch.proofs.first_rising.Tie as tie
 use native.Mathlib.Omega.{arith}
-use Rattle.stretch.proofs.Rowing.{corner-there}
+use Rattle.stretch.proofs.Rowing.{corner-in-row}
 use Rattle.stretch.proofs.Sides.{two-corners, rising-first, rising-second}
 
 key-at-requires : tie.Need-key-at-requires
-key-at-requires c κs = corner-there (c .pre .0) 0 (omega (arith, two-corners _ _ _ (c .pre .0 .peaked) (c .pre .1)))
+key-at-requires c κs = corner-in-row (c .pre .0) 0 (omega (arith, two-corners _ _ _ (c .pre .0 .peaked) (c .pre .1)))
 
 key-at-requires-2 : tie.Need-key-at-requires-2
-key-at-requires-2 c κs = let a = c .before in corner-there (a .pre .0) 1 (two-corners _ _ _ (a .pre .0 .peaked) (a .pre .1))
+key-at-requires-2 c κs = let a = c .before in corner-in-row (a .pre .0) 1 (two-corners _ _ _ (a .pre .0 .peaked) (a .pre .1))
 
 returns : tie.Need-returns
 returns c = let k = c .before .before in

@@ -3,7 +3,7 @@ use borrow.Author.Needs.{needs}
 use Rattle.stretch.proofs.next.Statement.{statement}
 use Rattle.stretch.proofs.next.Tie as tie
 use native.Mathlib.Omega.{arith}
-use Rattle.stretch.proofs.Rowing.{corner-there}
+use Rattle.stretch.proofs.Rowing.{corner-in-row}
 use Rattle.stretch.proofs.Following.{left-below, left-small, left-on, right-small, right-on}
 
 step-requires : tie.Need-step-requires
@@ -32,7 +32,7 @@ returns-2 : tie.Need-returns-2
 returns-2 c = search needs
 
 key-at-requires : tie.Need-key-at-requires
-key-at-requires c κs = let a = c .before .before in corner-there (a .pre .0) _ (a .pre .0 .peaked .peaks .inside)
+key-at-requires c κs = let a = c .before .before in corner-in-row (a .pre .0) _ (a .pre .0 .peaked .peaks .inside)
 
 returns-3 : tie.Need-returns-3
 returns-3 c = λ l. absurd (omega (arith, l, c .before .key-at .ensures .2, c .if3 .taken))

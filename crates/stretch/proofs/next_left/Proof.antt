@@ -9,7 +9,7 @@ use denote.Ref.{now}
 use Rattle.packed.specs.Packed.{side}
 use Rattle.packed.proofs.KeysOf.{keys-length}
 use Rattle.stretch.specs.Stretch.{HasRow}
-use Rattle.stretch.proofs.Rowing.{corner-there, row-small}
+use Rattle.stretch.proofs.Rowing.{corner-in-row, row-small}
 use Rattle.stretch.proofs.Following.{climbs-as, row-after, left-small, left-on, falls-place, falls-from, left-of}
 
 step-requires : tie.Need-step-requires
@@ -42,10 +42,10 @@ add-key-at : tie.Need-add-key-at
 add-key-at c = omega (arith, c .falling .ensures .1, keys-length (now (c .before .before .before .before .args .corners)))
 
 key-at-requires : tie.Need-key-at-requires
-key-at-requires c κs = corner-there (following (c .before .before)) _ (omega (arith, c .falling .ensures .1))
+key-at-requires c κs = corner-in-row (following (c .before .before)) _ (omega (arith, c .falling .ensures .1))
 
 key-at-requires-2 : tie.Need-key-at-requires-2
-key-at-requires-2 c κs = let f = c .before in corner-there (following (f .before .before)) _ (omega (arith, f .falling .ensures .1))
+key-at-requires-2 c κs = let f = c .before in corner-in-row (following (f .before .before)) _ (omega (arith, f .falling .ensures .1))
 
 add-climb : tie.Need-add-climb
 add-climb c = search needs

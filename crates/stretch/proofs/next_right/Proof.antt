@@ -8,7 +8,7 @@ use native.Mathlib.Omega.{arith}
 use denote.Ref.{now}
 use Rattle.packed.specs.Packed.{side}
 use Rattle.stretch.specs.Stretch.{HasRow}
-use Rattle.stretch.proofs.Rowing.{corner-there, row-small}
+use Rattle.stretch.proofs.Rowing.{corner-in-row, row-small}
 use Rattle.stretch.proofs.Following.{slope-as, climbs-as, row-after, rising-slope, right-small, right-on, rises-from, right-of}
 
 step-requires : tie.Need-step-requires
@@ -32,13 +32,13 @@ rising-requires c κs = let a = c .before .before in
     (following c, rises-from _ _ _ (a .pre .0 .peaked) _ (a .pre .2) (a .pre .1) (c .if1 .left))
 
 key-at-requires : tie.Need-key-at-requires
-key-at-requires c κs = corner-there (following (c .before)) _ (omega (arith, c .rising .ensures .1 .inside))
+key-at-requires c κs = corner-in-row (following (c .before)) _ (omega (arith, c .rising .ensures .1 .inside))
 
 add-key-at : tie.Need-add-key-at
 add-key-at c = search needs
 
 key-at-requires-2 : tie.Need-key-at-requires-2
-key-at-requires-2 c κs = let r = c .before in corner-there (following (r .before)) _ (omega (arith, r .rising .ensures .1 .inside))
+key-at-requires-2 c κs = let r = c .before in corner-in-row (following (r .before)) _ (omega (arith, r .rising .ensures .1 .inside))
 
 add-climb : tie.Need-add-climb
 add-climb c = omega (arith, few (c .before .before .before))

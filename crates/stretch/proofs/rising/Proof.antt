@@ -8,7 +8,7 @@ use Prim.Native.Nat.{_-_, _+_, _<_}
 use Rattle.packed.specs.Corners.{keysOf}
 use Rattle.packed.proofs.KeysOf.{keys-length}
 use Rattle.stretch.specs.Stretch.{RisesFrom}
-use Rattle.stretch.proofs.Rowing.{corner-there}
+use Rattle.stretch.proofs.Rowing.{corner-in-row}
 use Rattle.stretch.proofs.Sides.{rises-on, rises-here}
 
 abbrev Inv-loop : tie.InvT-loop
@@ -27,7 +27,7 @@ add-key-at : tie.Need-add-key-at Inv-loop μ-loop
 add-key-at c = omega (arith, inside c, keys-length (now (c .before .args .corners)))
 
 key-at-requires : tie.Need-key-at-requires Inv-loop μ-loop
-key-at-requires c κs = corner-there (c .before .pre .0) (c .loop .i + 1) (inside c)
+key-at-requires c κs = corner-in-row (c .before .pre .0) (c .loop .i + 1) (inside c)
 
 add-i : tie.Need-add-i Inv-loop μ-loop
 add-i c = let l = c .before .before in omega (arith, inside l, keys-length (now (l .before .args .corners)))

@@ -12,15 +12,15 @@ use Rattle.packed.specs.Packed.{side}
 use Rattle.packed.specs.Corners.{keysOf}
 use Rattle.packed.proofs.KeysOf.{keys-length}
 use Rattle.stretch.specs.Stretch.{Tall, Falls, Only}
-use Rattle.stretch.proofs.Rowing.{corner-there}
+use Rattle.stretch.proofs.Rowing.{corner-in-row}
 use Rattle.stretch.proofs.Sides.{two-corners, falling-last}
 use Rattle.stretch.proofs.Following.{slope-as, climbs-as, rising-slope, falling-slope, right-of, left-of}
 
 key-at-requires : tie.Need-key-at-requires
-key-at-requires c κs = corner-there (c .pre) 0 (omega (arith, c .pre .peaked .peaks .inside))
+key-at-requires c κs = corner-in-row (c .pre) 0 (omega (arith, c .pre .peaked .peaks .inside))
 
 key-at-requires-2 : tie.Need-key-at-requires-2
-key-at-requires-2 c κs = corner-there (c .before .pre) (c .before .args .peak) (c .before .pre .peaked .peaks .inside)
+key-at-requires-2 c κs = corner-in-row (c .before .pre) (c .before .args .peak) (c .before .pre .peaked .peaks .inside)
 
 -- the corners, once the first and the last are read
 abbrev keys : tie.After-key-at2 → List ℕ
@@ -69,7 +69,7 @@ ends c = omega (arith, keys-length (now (c .before .before .before .args .corner
 key-at-requires-3 : tie.Need-key-at-requires-3
 key-at-requires-3 c κs = let e = c .before in
     let a = e .before .before .before in
-    corner-there (a .pre) _ (omega (arith, several e, ends e))
+    corner-in-row (a .pre) _ (omega (arith, several e, ends e))
 
 -- the edge that falls to the first corner
 falls : (c : tie.Else1) → Falls (keys (c .before)) (getD (keys (c .before)) 0 0 / side) (length (now (c .before .before .before .args .corners)) / 2 - 1) (getD (keys (c .before)) 0 0)
@@ -84,14 +84,14 @@ climb-requires c κs = let e = c .before .before in
 
 key-at-requires-4 : tie.Need-key-at-requires-4
 key-at-requires-4 c κs = let f = c .before .before in
-    corner-there (f .before .before .before .before .pre) _ (omega (arith, f .first-rising .ensures .rises .inside))
+    corner-in-row (f .before .before .before .before .pre) _ (omega (arith, f .first-rising .ensures .rises .inside))
 
 add-key-at : tie.Need-add-key-at
 add-key-at c = search needs
 
 key-at-requires-5 : tie.Need-key-at-requires-5
 key-at-requires-5 c κs = let f = c .before .before .before in
-    corner-there (f .before .before .before .before .pre) _ (omega (arith, f .first-rising .ensures .rises .inside))
+    corner-in-row (f .before .before .before .before .pre) _ (omega (arith, f .first-rising .ensures .rises .inside))
 
 climb-requires-2 : tie.Need-climb-requires-2
 climb-requires-2 c κs = let f = c .before .before .before .before in
