@@ -2,10 +2,12 @@
 ghost use mathlib.Core.Path.{_≡_};
 ghost use Prim.Native.Nat.{_<_};
 ghost use lib.IntN.{pos};
+ghost use lib.ListN.{length, getD};
 ghost use lib.Signed.{_≤ℤ_, ltZ};
-ghost use Rattle.lattice.specs.Point.{least, greatest, InRange};
+ghost use Rattle.lattice.specs.Point.{least, greatest, InRange, points, point};
 ghost use Rattle.lattice.specs.Hull.{turn as turnOf};
 ghost use Rattle.packed.specs.Packed.{Tells, Within, side, cells, moved as movedOf, placed as placedOf, packed as packedOf, unpacked};
+ghost use Rattle.packed.specs.Corners.{keysOf};
 
 // The most points that go in, and the range of a coordinate.
 pub const MOST: usize = 4096;
@@ -62,6 +64,16 @@ pub fn packed(x: i32, y: i32) -> u32
     ensures { λ r. ⌜ (r ≡ packedOf (record { x = x; y = y })) × (r < cells) ⌝ }
 {
     SIDE * moved(y) + moved(x)
+}
+
+// The point at a place of a list, packed: so a list is read where it stands.
+pub fn key_at(list: &[i32], i: usize) -> u32
+    requires { ⌜ (i < length (points (now list))) × InRange (point (points (now list)) i) ⌝ }
+    ensures { λ r. ⌜ (r ≡ packedOf (point (points (now (list .entry))) i)) × (r < cells) × (r ≡ getD (keysOf (now (list .entry))) i 0) ⌝ }
+{
+    let x = list[2 * i];
+    let y = list[2 * i + 1];
+    packed(x, y)
 }
 
 // Its coordinates.

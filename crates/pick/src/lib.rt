@@ -1,10 +1,12 @@
 // How many lattice points a hull has, by Pick's formula: from the corners alone, no row is gone through.
 ghost use mathlib.Core.Path.{_≡_};
-ghost use Prim.Native.Nat.{_<_};
+ghost use Prim.Native.Nat.{_-_, _/_, _≤_, _<_};
+ghost use Rattle.lattice.specs.Point.{points};
+ghost use Rattle.lattice.specs.Hull.{InHull, Of};
 ghost use Rattle.packed.specs.Packed.{cells};
-ghost use Rattle.packed.specs.Corners.{HullOf, Cornered, CountOf};
+ghost use Rattle.packed.specs.Corners.{HullOf, Cornered, Outline, CountOf};
 ghost use Rattle.pick.specs.Pick.{divisor as divisorOf};
-ghost use Rattle.pick.specs.Edge.{distance as distanceOf, steps as stepsOf, gain as gainOf, loss as lossOf};
+ghost use Rattle.pick.specs.Edge.{distance as distanceOf, steps as stepsOf, gain as gainOf, loss as lossOf, Small, Adds};
 
 const SIDE: u32 = 16384;
 
@@ -53,7 +55,45 @@ fn loss(a: u32, b: u32) -> u64
     (b % SIDE) as u64 * (a / SIDE) as u64
 }
 
-// How many lattice points the hull has.
+// The edges up to a corner: that corner, and what they gained and lost.
+struct Edges {
+    before: u32,
+    gained: u64,
+    lost: u64,
+}
+
+// No edge yet: the first comes from the last corner.
+fn no_edge(last: u32) -> Edges
+    ensures { λ r. ⌜ r ≡ record { before = last; gained = 2; lost = 0 } ⌝ }
+{
+    Edges {
+        before: last,
+        gained: 2,
+        lost: 0,
+    }
+}
+
+// The edge to one corner more.
+fn with_edge(edges: Edges, corner: u32) -> Edges
+    requires { ⌜ Small edges × (corner < cells) ⌝ }
+    ensures { λ r. ⌜ Adds edges corner r ⌝ }
+{
+    Edges {
+        before: corner,
+        gained: edges.gained + gain(edges.before, corner),
+        lost: edges.lost + loss(edges.before, corner),
+    }
+}
+
+// Both sums together are twice the count.
+fn half(edges: Edges) -> u64
+    requires { ⌜ edges .lost ≤ edges .gained ⌝ }
+    ensures { λ r. ⌜ r ≡ (edges .gained - edges .lost) / 2 ⌝ }
+{
+    (edges.gained - edges.lost) / 2
+}
+
+// How many lattice points the hull has: of corners that are packed, and of corners where they stand as numbers.
 pub fn count(corners: &[u32]) -> u64
     requires { ⌜ Cornered (now corners) ⌝ }
     ensures { λ r. ⌜ CountOf (HullOf (now (corners .entry))) r ⌝ }
@@ -62,16 +102,28 @@ pub fn count(corners: &[u32]) -> u64
     if n == 0 {
         return 0;
     }
-    let mut before = corners[n - 1];
-    let mut gained: u64 = 2;
-    let mut lost: u64 = 0;
+    let mut edges = no_edge(corners[n - 1]);
     let mut i: usize = 0;
     while i < n {
-        let corner = corners[i];
-        gained += gain(before, corner);
-        lost += loss(before, corner);
-        before = corner;
+        edges = with_edge(edges, corners[i]);
         i += 1;
     }
-    (gained - lost) / 2
+    half(edges)
+}
+
+pub fn count_of(corners: &[i32]) -> u64
+    requires { ⌜ Outline (now corners) ⌝ }
+    ensures { λ r. ⌜ CountOf (InHull (Of (points (now (corners .entry))))) r ⌝ }
+{
+    let n = corners.len() / 2;
+    if n == 0 {
+        return 0;
+    }
+    let mut edges = no_edge(packed::key_at(corners, n - 1));
+    let mut i: usize = 0;
+    while i < n {
+        edges = with_edge(edges, packed::key_at(corners, i));
+        i += 1;
+    }
+    half(edges)
 }

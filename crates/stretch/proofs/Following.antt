@@ -1,19 +1,30 @@
 -- Both sides of a hull from its first row to its last, and what lies between them. Assumes nothing.
-use mathlib.Core.Path.{_≡_, sym, ap, subst}
+use mathlib.Core.Path.{_≡_, sym, ap, subst, subst₂}
 use mathlib.Core.List.{List, map}
 use Prim.Native.Nat.{ℕ, suc, _+_, _-_, _*_, _/_, _%_, _≤_, _<_}
 use native.Mathlib.Numerals.{add-one}
 use native.Mathlib.Omega.{arith}
 use lib.ListN.{getD}
+use lib.IntN.{ℤ}
+use Rattle.lattice.specs.Point.{points}
 use Rattle.lattice.proofs.Lists.{either}
 use Rattle.lattice.proofs.Places.{lt-or-le}
 use Rattle.packed.specs.Packed.{side, unpacked}
-use Rattle.stretch.specs.Stretch.{Bounded, Slope, StretchOf, Peaked, Tall, Rises, Falls, RisesFrom, FallsFrom, unit, moved, columnOf, Climbs, Only, Rising, Falling, OnRight, OnLeft, Crosses}
+use Rattle.packed.specs.Corners.{keysOf}
+use Rattle.packed.proofs.KeysOf.{keys-unpacked}
+use Rattle.stretch.specs.Stretch.{Bounded, Slope, StretchOf, Peaked, HasRow, lastRow, Tall, Rises, Falls, RisesFrom, FallsFrom, unit, moved, columnOf, Climbs, Only, Rising, Falling, OnRight, OnLeft, Crosses}
 use Rattle.stretch.specs.declared.Stretch.{Stretch}
 use Rattle.stretch.specs.declared.Edge.{Edge}
 use Rattle.stretch.specs.declared.Crossing.{Crossing}
 use Rattle.stretch.proofs.Climbing.{step-small, climbs-on, right-column, left-column}
 use Rattle.stretch.proofs.Sides.{after-below, flat, crossed}
+
+-- an edge between corners that were read, in a row that was
+pub slope-as : {a b c d y z : ℕ} → a ≡ c → b ≡ d → y ≡ z → Slope c d z → Slope a b y
+slope-as {a} {b} {z = z} e f g h = subst (Slope a b) (sym g) (subst₂ (λ m n. Slope m n z) (sym e) (sym f) h)
+
+pub climbs-as : {a b c d y z move : ℕ} {e : Edge} → a ≡ c → b ≡ d → y ≡ z → Climbs a b y move e → Climbs c d z move e
+climbs-as {c = c} {d} {y} {move = move} {e} p q r h = subst (λ n. Climbs c d n move e) r (subst₂ (λ m n. Climbs m n y move e) p q h)
 
 -- the edge one row further
 abbrev pub stepped : Edge → Edge
@@ -45,7 +56,7 @@ module _ (corners : List ℕ) (peak y : ℕ) (h : Peaked corners peak y) where
   }
 
   -- the hull has the row after y
-  pub next-row : y < last-row → Peaked corners peak (y + 1)
+  next-row : y < last-row → Peaked corners peak (y + 1)
   next-row l = record { below = h .below; listed = h .listed; peaks = h .peaks; from-row = omega (arith, h .from-row); to-row = omega arith }
 
   tall-from : y < last-row → Tall corners peak
@@ -58,7 +69,7 @@ module _ (corners : List ℕ) (peak y : ℕ) (h : Peaked corners peak y) where
       (λ g. absurd (omega (arith, h .from-row, k, g, n (λ t. omega (arith, t, g)) .last)))
 
   -- what lies between the sides
-  pub between-sides : (c : Crossing) → Crosses corners peak y c → (t : Stretch) → Bounded (columnOf (c .left)) (columnOf (c .right) + 1) t
+  between-sides : (c : Crossing) → Crosses corners peak y c → (t : Stretch) → Bounded (columnOf (c .left)) (columnOf (c .right) + 1) t
       → StretchOf (map unpacked corners) y t
   between-sides c k t b =
       either (lt-or-le first-row last-row)
@@ -172,3 +183,13 @@ module _ (corners : List ℕ) (peak y : ℕ) (h : Peaked corners peak y) where
     };
     only = λ n. absurd (n t);
   }
+
+-- ---- corners as numbers
+module _ {corners : List ℤ} {peak y : ℕ} (h : HasRow corners peak y) where
+  pub row-after : y < lastRow corners peak → HasRow corners peak (y + 1)
+  row-after l = record { range = h .range; peaked = next-row (keysOf corners) peak y (h .peaked) l }
+
+  pub columns-between : (c : Crossing) → Crosses (keysOf corners) peak y c → (t : Stretch) → Bounded (columnOf (c .left)) (columnOf (c .right) + 1) t
+      → StretchOf (points corners) y t
+  columns-between c k t b =
+      subst (λ l. StretchOf l y t) (keys-unpacked corners (h .range)) (between-sides (keysOf corners) peak y (h .peaked) c k t b)

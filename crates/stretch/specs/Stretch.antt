@@ -4,9 +4,11 @@ use mathlib.Core.Logic.{_⊎_, _↔_}
 use mathlib.Core.List.{List, map}
 use Prim.Native.Nat.{ℕ, suc, _+_, _-_, _*_, _/_, _%_, _≤_, _<_}
 use lib.ListN.{length, getD}
-use Rattle.lattice.specs.Point.{Point}
+use lib.IntN.{ℤ}
+use Rattle.lattice.specs.Point.{Point, InRange, points, All}
 use Rattle.lattice.specs.Hull.{InHull, Of, CornerList}
 use Rattle.packed.specs.Packed.{side, cells, placed, unpacked}
+use Rattle.packed.specs.Corners.{keysOf}
 use Rattle.stretch.specs.declared.Stretch.{Stretch}
 use Rattle.stretch.specs.declared.Edge.{Edge}
 use Rattle.stretch.specs.declared.Crossing.{Crossing}
@@ -54,6 +56,18 @@ pub record Peaked (corners : List ℕ) (peak y : ℕ) : Type 0 where
   pub peaks : Peak corners peak
   pub from-row : getD corners 0 0 / side ≤ y
   pub to-row : y ≤ getD corners peak 0 / side
+
+-- corners as numbers, in range, as packed points
+pub record HasRow (corners : List ℤ) (peak y : ℕ) : Type 0 where
+  pub range : All InRange (points corners)
+  pub peaked : Peaked (keysOf corners) peak y
+
+-- the rows of the first corner and of the last
+abbrev pub firstRow : List ℤ → ℕ
+firstRow corners = getD (keysOf corners) 0 0 / side
+
+abbrev pub lastRow : List ℤ → ℕ → ℕ
+lastRow corners peak = getD (keysOf corners) peak 0 / side
 
 -- the corners are not all in one row
 abbrev pub Tall : List ℕ → ℕ → Type 0

@@ -1,9 +1,10 @@
 // Where a hull begins and ends in each row: where two of its edges cross the row. Both are followed from row to row by one addition each.
+// The corners are read where they stand, as numbers.
 ghost use mathlib.Core.Path.{_≡_};
 ghost use lib.ListN.{length, getD};
 ghost use Prim.Native.Nat.{suc, _+_, _*_, _/_, _≤_, _<_};
-ghost use Rattle.packed.specs.Packed.{side};
-ghost use Rattle.stretch.specs.Stretch.{Bounded, Slope, Peaked, Tall, Rises, RisesFrom, Falls, FallsFrom, unit, columnOf, Climbs, Only, FirstRises, OnRight, OnLeft, Crosses};
+ghost use Rattle.packed.specs.Corners.{keysOf};
+ghost use Rattle.stretch.specs.Stretch.{Bounded, Slope, HasRow, firstRow, lastRow, Tall, Rises, RisesFrom, Falls, FallsFrom, unit, columnOf, Climbs, Only, FirstRises, OnRight, OnLeft, Crosses};
 
 // Columns moved to start at 0, from `from` to below `to`.
 pub struct Stretch {
@@ -77,88 +78,108 @@ fn only(corner: u32) -> Edge
 }
 
 // The first rising edge: the second where the first lies in its row.
-fn first_rising(corners: &[u32], peak: usize) -> usize
-    requires { ⌜ Peaked (now corners) peak (getD (now corners) 0 0 / side) × Tall (now corners) peak ⌝ }
-    ensures { λ r. ⌜ FirstRises (now (corners .entry)) peak r ⌝ }
+fn first_rising(corners: &[i32], peak: usize) -> usize
+    requires { ⌜ HasRow (now corners) peak (firstRow (now corners)) × Tall (keysOf (now corners)) peak ⌝ }
+    ensures { λ r. ⌜ FirstRises (keysOf (now (corners .entry))) peak r ⌝ }
 {
-    if corners[0] / SIDE == corners[1] / SIDE {
+    if packed::key_at(corners, 0) / SIDE == packed::key_at(corners, 1) / SIDE {
         return 1;
     }
     0
 }
 
 // Both sides in the first row.
-pub fn start(corners: &[u32], peak: usize) -> Crossing
-    requires { ⌜ Peaked (now corners) peak (getD (now corners) 0 0 / side) ⌝ }
-    ensures { λ r. ⌜ Crosses (now (corners .entry)) peak (getD (now (corners .entry)) 0 0 / side) r ⌝ }
+pub fn start(corners: &[i32], peak: usize) -> Crossing
+    requires { ⌜ HasRow (now corners) peak (firstRow (now corners)) ⌝ }
+    ensures { λ r. ⌜ Crosses (keysOf (now (corners .entry))) peak (firstRow (now (corners .entry))) r ⌝ }
 {
-    let y = corners[0] / SIDE;
-    if y == corners[peak] / SIDE {
+    let first = packed::key_at(corners, 0);
+    let last = packed::key_at(corners, peak);
+    let y = first / SIDE;
+    if y == last / SIDE {
         return Crossing {
-            left: only(corners[0]),
-            right: only(corners[peak]),
+            left: only(first),
+            right: only(last),
         };
     }
     let rising = first_rising(corners, peak);
-    let falling = corners.len() - 1;
+    let falling = corners.len() / 2 - 1;
     Crossing {
-        left: climb(falling, corners[0], corners[falling], y, MOVED),
-        right: climb(rising, corners[rising], corners[rising + 1], y, 0),
+        left: climb(falling, first, packed::key_at(corners, falling), y, MOVED),
+        right: climb(
+            rising,
+            packed::key_at(corners, rising),
+            packed::key_at(corners, rising + 1),
+            y,
+            0,
+        ),
     }
 }
 
 // The rising edge that crosses row y, looked for from one that may end below it.
-fn rising(corners: &[u32], peak: usize, y: u32, near: usize) -> usize
-    requires { ⌜ Peaked (now corners) peak y × RisesFrom (now corners) peak y near ⌝ }
-    ensures { λ r. ⌜ (r < peak) × Rises (now (corners .entry)) y r ⌝ }
+fn rising(corners: &[i32], peak: usize, y: u32, near: usize) -> usize
+    requires { ⌜ HasRow (now corners) peak y × RisesFrom (keysOf (now corners)) peak y near ⌝ }
+    ensures { λ r. ⌜ (r < peak) × Rises (keysOf (now (corners .entry))) y r ⌝ }
 {
     let mut i = near;
-    while corners[i + 1] / SIDE < y {
+    while packed::key_at(corners, i + 1) / SIDE < y {
         i += 1;
     }
     i
 }
 
 // The falling edge that crosses it.
-fn falling(corners: &[u32], peak: usize, y: u32, near: usize) -> usize
-    requires { ⌜ Peaked (now corners) peak y × FallsFrom (now corners) peak y near ⌝ }
-    ensures { λ r. ⌜ (peak ≤ r) × (suc r < length (now (corners .entry))) × Falls (now (corners .entry)) y r (getD (now (corners .entry)) (r + 1) 0) ⌝ }
+fn falling(corners: &[i32], peak: usize, y: u32, near: usize) -> usize
+    requires { ⌜ HasRow (now corners) peak y × FallsFrom (keysOf (now corners)) peak y near ⌝ }
+    ensures { λ r. ⌜ (peak ≤ r) × (suc r < length (keysOf (now (corners .entry)))) × Falls (keysOf (now (corners .entry))) y r (getD (keysOf (now (corners .entry))) (r + 1) 0) ⌝ }
 {
     let mut i = near;
-    while corners[i] / SIDE < y {
+    while packed::key_at(corners, i) / SIDE < y {
         i -= 1;
     }
     i
 }
 
 // The right side in the row after y: the same edge, or where it has ended the next one.
-fn next_right(corners: &[u32], peak: usize, y: u32, edge: Edge) -> Edge
-    requires { ⌜ Peaked (now corners) peak y × (y < getD (now corners) peak 0 / side) × OnRight (now corners) peak y edge ⌝ }
-    ensures { λ r. ⌜ OnRight (now (corners .entry)) peak (y + 1) r ⌝ }
+fn next_right(corners: &[i32], peak: usize, y: u32, edge: Edge) -> Edge
+    requires { ⌜ HasRow (now corners) peak y × (y < lastRow (now corners) peak) × OnRight (keysOf (now corners)) peak y edge ⌝ }
+    ensures { λ r. ⌜ OnRight (keysOf (now (corners .entry))) peak (y + 1) r ⌝ }
 {
     if y < edge.last {
         return step(edge);
     }
     let i = rising(corners, peak, y + 1, edge.place);
-    climb(i, corners[i], corners[i + 1], y + 1, 0)
+    climb(
+        i,
+        packed::key_at(corners, i),
+        packed::key_at(corners, i + 1),
+        y + 1,
+        0,
+    )
 }
 
 // The left side.
-fn next_left(corners: &[u32], peak: usize, y: u32, edge: Edge) -> Edge
-    requires { ⌜ Peaked (now corners) peak y × (y < getD (now corners) peak 0 / side) × OnLeft (now corners) peak y edge ⌝ }
-    ensures { λ r. ⌜ OnLeft (now (corners .entry)) peak (y + 1) r ⌝ }
+fn next_left(corners: &[i32], peak: usize, y: u32, edge: Edge) -> Edge
+    requires { ⌜ HasRow (now corners) peak y × (y < lastRow (now corners) peak) × OnLeft (keysOf (now corners)) peak y edge ⌝ }
+    ensures { λ r. ⌜ OnLeft (keysOf (now (corners .entry))) peak (y + 1) r ⌝ }
 {
     if y < edge.last {
         return step(edge);
     }
     let i = falling(corners, peak, y + 1, edge.place - 1);
-    climb(i, corners[i + 1], corners[i], y + 1, MOVED)
+    climb(
+        i,
+        packed::key_at(corners, i + 1),
+        packed::key_at(corners, i),
+        y + 1,
+        MOVED,
+    )
 }
 
 // Both sides in the row after a corner's. A function of its own, and called twice, so that it is not inlined and what most rows take is.
-fn past_corner(corners: &[u32], peak: usize, y: u32, crossing: Crossing) -> Crossing
-    requires { ⌜ Peaked (now corners) peak y × (y < getD (now corners) peak 0 / side) × Crosses (now corners) peak y crossing ⌝ }
-    ensures { λ r. ⌜ Crosses (now (corners .entry)) peak (y + 1) r ⌝ }
+fn past_corner(corners: &[i32], peak: usize, y: u32, crossing: Crossing) -> Crossing
+    requires { ⌜ HasRow (now corners) peak y × (y < lastRow (now corners) peak) × Crosses (keysOf (now corners)) peak y crossing ⌝ }
+    ensures { λ r. ⌜ Crosses (keysOf (now (corners .entry))) peak (y + 1) r ⌝ }
 {
     Crossing {
         left: next_left(corners, peak, y, crossing.left),
@@ -167,9 +188,9 @@ fn past_corner(corners: &[u32], peak: usize, y: u32, crossing: Crossing) -> Cros
 }
 
 // Both sides in the row after y, if the hull has that row: all rows together take as many steps as there are rows and corners.
-pub fn next(corners: &[u32], peak: usize, y: u32, crossing: Crossing) -> Crossing
-    requires { ⌜ Peaked (now corners) peak y × Crosses (now corners) peak y crossing ⌝ }
-    ensures { λ r. ⌜ (y < getD (now (corners .entry)) peak 0 / side → Crosses (now (corners .entry)) peak (y + 1) r) ⌝ }
+pub fn next(corners: &[i32], peak: usize, y: u32, crossing: Crossing) -> Crossing
+    requires { ⌜ HasRow (now corners) peak y × Crosses (keysOf (now corners)) peak y crossing ⌝ }
+    ensures { λ r. ⌜ (y < lastRow (now (corners .entry)) peak → Crosses (keysOf (now (corners .entry))) peak (y + 1) r) ⌝ }
 {
     if y < crossing.left.last {
         if y < crossing.right.last {
@@ -180,7 +201,7 @@ pub fn next(corners: &[u32], peak: usize, y: u32, crossing: Crossing) -> Crossin
         }
         return past_corner(corners, peak, y, crossing);
     }
-    if corners[peak] / SIDE <= y {
+    if packed::key_at(corners, peak) / SIDE <= y {
         return crossing;
     }
     past_corner(corners, peak, y, crossing)
