@@ -79,11 +79,12 @@ pub fn figures(list: &[i32], ordered: &mut [i32], corners: &mut [i32]) -> Figure
     let found = hull::hull(list, ordered, corners);
     let number = found.number;
     let place = found.place;
+    let n = found.points;
     let count = found.corners;
     if number != 0 {
         return Figured::Refused { number, place };
     }
-    if found.points == 0 {
+    if n == 0 {
         return Figured::None;
     }
     Figured::Given {

@@ -74,23 +74,26 @@ byPairs s limit = 7 when Whole (MoreMissing s limit) else accepted
 
 by-room : (s : List Point) (room : List ℤ) (n i : ℕ) → Gives (byPairs s (length room / 2)) n i → Gives (7 when Whole (FewerThanMissing s room) else accepted) n i
 by-room s room n i (inl (e, w)) =
-    inl (e, record {
-      here = (w .here .0, record { missing = w .here .1 .missing; listed = w .here .1 .listed; small = w .here .1 .more });
-      earlier = λ j l h. w .earlier j l (h .0, record { missing = h .1 .missing; listed = h .1 .listed; more = h .1 .small });
-    })
+    inl (
+      e,
+      record {
+        here = (w .here .0, record { missing = w .here .1 .missing; listed = w .here .1 .listed; small = w .here .1 .more });
+        earlier = λ j l h. w .earlier j l (h .0, record { missing = h .1 .missing; listed = h .1 .listed; more = h .1 .small });
+      },
+    )
 by-room s room n i (inr (never, g)) = inr ((λ j h. never j (h .0, record { missing = h .1 .missing; listed = h .1 .listed; more = h .1 .small })), g)
 
 module _ (list ordered corners missing : List ℤ) {answer : Hulled} {ordered′ corners′ : List ℤ}
     (f : WithinPromise list ordered corners (length missing / 2) answer ordered′ corners′) where
-  gives : Gives (reportRows list ordered corners missing accepted) (answer .number) (answer .place)
-  gives =
+  report-gives : Gives (reportRows list ordered corners missing accepted) (answer .number) (answer .place)
+  report-gives =
       other-later (hullRows list ordered corners accepted) (byPairs (points list) (length missing / 2)) (7 when Whole (FewerThanMissing (points list) missing) else accepted)
       (by-room (points list) missing) (answer .number) (answer .place) (f .gives)
 
   pub report-declined : (answer .number ≡ 0 → ⊥) → (r : Reported) → r ≡ unreported (answer .number) (answer .place)
       → ReportPromise list ordered corners missing r ordered′ corners′ missing
   report-declined e r q =
-      subst (λ r. ReportPromise list ordered corners missing r ordered′ corners′ missing) (sym q) (by-number (answer .number) (answer .place) e gives (f .result))
+      subst (λ r. ReportPromise list ordered corners missing r ordered′ corners′ missing) (sym q) (by-number (answer .number) (answer .place) e report-gives (f .result))
     where
       by-number : (number place : ℕ) → (number ≡ 0 → ⊥) → Gives (reportRows list ordered corners missing accepted) number place
           → HullResult list ordered corners number (answer .points) (answer .corners) ordered′ corners′
@@ -137,7 +140,7 @@ module _ (list ordered corners missing : List ℤ) {answer : Hulled} {ordered′
       reported-as r q =
           subst (λ r. ReportPromise list ordered corners missing r ordered′ corners′ missing′) (sym q) record {
             gives = place-zero (reportRows list ordered corners missing accepted) (tt, (tt, (tt, (tt, (tt, (tt, (tt, tt))))))) (answer .place)
-                (subst (λ n. Gives (reportRows list ordered corners missing accepted) n (answer .place)) e gives);
+                (subst (λ n. Gives (reportRows list ordered corners missing accepted) n (answer .place)) e report-gives);
             hull = accepted-hulls list ordered corners (byPairs (points list) (length missing / 2)) answer ordered′ corners′ (f .gives) (f .result) e;
             verdict = record { missing = p .0; listed = p .1; verdict-is = refl; first-is = refl };
             listed = (p .0, p .1, refl, p .3);

@@ -1,14 +1,12 @@
 -- The answers of Verdict and Report to an accepted grain. Assumes nothing.
 use mathlib.Core.Path.{_≡_}
 use mathlib.Core.Logic.{_⊎_}
-use mathlib.Core.List.{List, map}
+use mathlib.Core.List.{List}
 use Prim.Native.Nat.{ℕ, _≤_, _<_}
 use lib.ListN.{getD}
 use lib.IntN.{ℤ, pos}
-use Rattle.lattice.specs.Point.{Point, origin, Pairs, Before}
-use Rattle.lattice.specs.Hull.{CornerList, Missing}
+use Rattle.lattice.specs.Point.{Point, origin}
 use Rattle.packed.specs.Packed.{cells, unpacked}
-use Rattle.order.specs.Keys.{Below}
 use Rattle.report.specs.declared.Judged.{Judged}
 use Rattle.report.specs.declared.Reported.{Reported}
 use Rattle.report.specs.Report.{no, yes}

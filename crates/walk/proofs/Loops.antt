@@ -13,8 +13,8 @@ use Rattle.lattice.proofs.Lists.{either}
 use Rattle.lattice.proofs.Places.{lt-or-le, nowhere, all-place}
 use Rattle.packed.specs.Packed.{side, cells, placed, unpacked}
 use Rattle.packed.proofs.RowOrder.{placed-injective, placed-order}
-use Rattle.order.specs.Row.{Holds, LeadsTo}
-use Rattle.order.proofs.Parts.{part}
+use Rattle.rows.specs.Row.{Holds, LeadsTo}
+use Rattle.range.proofs.Parts.{part}
 use Rattle.packed.specs.Corners.{keysOf}
 use Rattle.stretch.specs.Stretch.{cell, StretchOf, Peak, firstRow, lastRow}
 use Rattle.stretch.specs.declared.Stretch.{Stretch}

@@ -23,9 +23,9 @@ use Rattle.packed.proofs.Border.{moved-small}
 use Rattle.packed.proofs.Reading.{column-at}
 use Rattle.packed.proofs.Tests.{tells-equal, tells-as}
 use Rattle.packed.proofs.RowOrder.{placed-moved, order-placed, unpacked-in-range}
-use Rattle.order.specs.Row.{Holds, LeadsTo}
-use Rattle.order.proofs.Parts.{part, part-length, part-at}
-use Rattle.order.proofs.RowLaws.{Running}
+use Rattle.rows.specs.Row.{Holds, LeadsTo}
+use Rattle.range.proofs.Parts.{part, part-length, part-at}
+use Rattle.rows.proofs.RowLaws.{Running}
 use Rattle.stretch.specs.Stretch.{cell, StretchOf}
 use Rattle.stretch.specs.declared.Stretch.{Stretch}
 use Rattle.walk.specs.Walk.{columnAt, RowPoints}

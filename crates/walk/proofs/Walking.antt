@@ -23,8 +23,8 @@ use Rattle.packed.proofs.KeyLaws.{in-unpacked}
 use Rattle.packed.proofs.RowOrder.{unpacked-in-range, placed-order, placed-grows}
 use Rattle.packed.proofs.KeysOf.{keys-below, keys-unpacked, outline-cornered}
 use Rattle.packed.proofs.Corners.{none-before}
-use Rattle.order.specs.Row.{Holds}
-use Rattle.order.proofs.Parts.{part}
+use Rattle.rows.specs.Row.{Holds}
+use Rattle.range.proofs.Parts.{part}
 use Rattle.stretch.specs.Stretch.{StretchOf, Peak, HasRow, firstRow, lastRow}
 use Rattle.stretch.specs.declared.Stretch.{Stretch}
 use Rattle.packed.specs.Corners.{HullOf, Cornered, keysOf, Outline}

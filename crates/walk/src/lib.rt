@@ -5,7 +5,7 @@ ghost use lib.ListN.{length};
 ghost use Rattle.lattice.specs.Point.{InRange, points, point, All, Pairs, Before};
 ghost use Rattle.packed.specs.Packed.{Tells, side};
 ghost use Rattle.packed.specs.Corners.{keysOf, Outline};
-ghost use Rattle.order.specs.Row.{RunsTo};
+ghost use Rattle.rows.specs.Row.{RunsTo};
 ghost use Rattle.stretch.specs.Stretch.{Peak};
 ghost use Rattle.walk.specs.Walk.{Walked, Lacking, FirstOf, Takes, Puts, columnAt, RowPoints, Gap, Across, InRow, Neighbour, FirstColumn};
 use stretch::Stretch;

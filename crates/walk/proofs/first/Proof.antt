@@ -15,8 +15,8 @@ use Rattle.packed.specs.Packed.{side, placed}
 use Rattle.packed.specs.Corners.{keysOf}
 use Rattle.packed.proofs.Tests.{read-back, tells-yes, tells-no}
 use Rattle.packed.proofs.KeysOf.{corner-readable}
-use Rattle.order.specs.Row.{Holds, RunsTo}
-use Rattle.order.proofs.RowLaws.{ends-hold}
+use Rattle.rows.specs.Row.{Holds, RunsTo}
+use Rattle.rows.proofs.RowLaws.{ends-hold}
 use Rattle.stretch.specs.Stretch.{StretchOf, HasRow, lastRow, Crosses}
 use Rattle.stretch.proofs.Following.{columns-between}
 use Rattle.walk.specs.Walk.{Walked}
