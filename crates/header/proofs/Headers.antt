@@ -10,10 +10,10 @@ use lib.Dec.{leb}
 use lib.ListN.{length}
 use Rattle.lattice.proofs.Lists.{either}
 use Rattle.lattice.proofs.Places.{lt-or-le}
+use Rattle.netpbm.specs.Space.{whiteSpace}
 use Rattle.header.specs.declared.Header.{Header}
 use Rattle.header.specs.declared.Header.the-variants.{Sound, Bad}
 use Rattle.header.specs.declared.Run.{Run}
-use Rattle.netpbm.specs.Space.{whiteSpace}
 use Rattle.header.specs.Bytes.{digit, Placed, readAt}
 use Rattle.header.specs.Header.{starts, behind, size, greatestSize, inSize, placeIn, unless, broken, sizeThen, afterHeight, afterWidth, headerOf}
 use Rattle.header.specs.Steps.{Settled, Leads, RunAt}

@@ -1,4 +1,4 @@
--- White space, line ends, digits and # as tests on bytes: what a comparison that came out true or false says of them. Assumes nothing.
+-- Line ends, digits and # as tests on bytes: what a comparison that came out true or false says of them. Assumes nothing.
 use mathlib.Core.Path.{_≡_, refl}
 use mathlib.Core.Bool.{Bool, true, false, _||_}
 use mathlib.Core.Logic.{_⊎_, inl, inr}

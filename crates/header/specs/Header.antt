@@ -4,9 +4,9 @@ use mathlib.Core.List.{List, [], _∷_}
 use Prim.Native.Nat.{ℕ, suc, _+_, _*_, _-_}
 use lib.Dec.{leb}
 use lib.ListN.{length}
+use Rattle.netpbm.specs.Space.{whiteSpace}
 use Rattle.header.specs.declared.Header.{Header}
 use Rattle.header.specs.declared.Header.the-variants.{Sound, Bad}
-use Rattle.netpbm.specs.Space.{whiteSpace}
 use Rattle.header.specs.Bytes.{digit, Placed, readAt}
 
 -- whether the next byte passes a test; what is left behind all next bytes that pass it

@@ -5,7 +5,7 @@ ghost use Prim.Native.Nat.{_+_, _*_, _-_, _≤_, suc, min};
 ghost use lib.ListN.{length, drop};
 ghost use Rattle.netpbm.specs.Space.{whiteSpace};
 ghost use Rattle.header.specs.Bytes.{readIn, readAt};
-ghost use Rattle.header.specs.Header.{starts, behind, inSize, greatestSize, headerOf};
+ghost use Rattle.header.specs.Header.{starts, behind, inSize, greatestSize, afterHeight, afterWidth, headerOf};
 ghost use Rattle.header.specs.Steps.{Settled, Leads, RunAt, Sized};
 
 // The greatest width and height.
@@ -42,10 +42,10 @@ fn line_end(bytes: &[u8], at: usize) -> usize
     while i < bytes.len() {
         let b = bytes[i];
         if b == b'\n' {
-            return i;
+            break;
         }
         if b == b'\r' {
-            return i;
+            break;
         }
         i += 1;
     }
@@ -110,10 +110,10 @@ fn size_at(bytes: &[u8], at: usize) -> Run
     while i < bytes.len() {
         let b = bytes[i];
         if b < b'0' {
-            return Run { size, end: i };
+            break;
         }
         if b'9' < b {
-            return Run { size, end: i };
+            break;
         }
         size = longer(size, b);
         i += 1;
@@ -147,26 +147,40 @@ fn sized(bytes: &[u8], at: usize) -> Part
     Part::Bad(gap)
 }
 
+// What ends a header behind its height.
+fn after_height(bytes: &[u8], at: usize, width: usize, height: usize) -> Header
+    requires { ⌜ at ≤ length (now bytes) ⌝ }
+    ensures { λ r. ⌜ r ≡ afterHeight (now (bytes .entry)) width height (readAt (now (bytes .entry)) at) ⌝ }
+{
+    let end = next(bytes, at);
+    if white_at(bytes, end) {
+        return Header::Sound {
+            width,
+            height,
+            at: end + 1,
+        };
+    }
+    Header::Bad(end)
+}
+
+// The header behind its width.
+fn after_width(bytes: &[u8], at: usize, width: usize) -> Header
+    requires { ⌜ at ≤ length (now bytes) ⌝ }
+    ensures { λ r. ⌜ r ≡ afterWidth (now (bytes .entry)) width (readAt (now (bytes .entry)) at) ⌝ }
+{
+    match sized(bytes, at) {
+        Part::Size(height, end) => after_height(bytes, end, width, height),
+        Part::Bad(place) => Header::Bad(place),
+    }
+}
+
 // The header behind its two first bytes.
 pub fn check(bytes: &[u8]) -> Header
     requires { ⌜ 2 ≤ length (now bytes) ⌝ }
     ensures { λ r. ⌜ r ≡ headerOf (now (bytes .entry)) ⌝ }
 {
     match sized(bytes, 2) {
-        Part::Size(width, behind) => match sized(bytes, behind) {
-            Part::Size(height, end) => {
-                let gap = next(bytes, end);
-                if white_at(bytes, gap) {
-                    return Header::Sound {
-                        width,
-                        height,
-                        at: gap + 1,
-                    };
-                }
-                Header::Bad(gap)
-            }
-            Part::Bad(place) => Header::Bad(place),
-        },
+        Part::Size(width, end) => after_width(bytes, end, width),
         Part::Bad(place) => Header::Bad(place),
     }
 }

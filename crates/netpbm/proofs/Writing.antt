@@ -81,9 +81,10 @@ module _ (raster : ℕ → ℕ → Raster) (at all width : ℕ) (list₀ list : 
     room-left =
         omega (arith, length-append (h .written) (black width k (true ∷ behind true next f .0)), ap length (split true next f), h .count)
 
-    pub writing-black : 2 * n + 1 < length list₀ → (x y : ℤ) → x ≡ pos (k % width) → y ≡ pos (k / width)
-        → Writing raster at all width list₀ (set (set list (2 * n) x) (2 * n + 1) y) (n + 1) (k + 1) next
-    writing-black room x y e g =
+    pub writing-black : 2 * n + 1 < length list₀ → (x y : ℕ) → x ≡ k % width → y ≡ k / width
+        → (after : List ℤ) → after ≡ set (set list (2 * n) (pos x)) (2 * n + 1) (pos y)
+        → Writing raster at all width list₀ after (n + 1) (k + 1) next
+    writing-black room x y e g after put =
         let p = pixelPoint width k in
         let m = behind true next f .0 in
         record {
@@ -93,7 +94,7 @@ module _ (raster : ℕ → ℕ → Raster) (at all width : ℕ) (list₀ list : 
           same = rw add-one (append-assoc (h .written) (p ∷ []) (black width (suc k) m) ∙ split true next f);
           count = length-append (h .written) (p ∷ []) ∙ omega (arith, h .count);
           stand =
-              (λ j. set (set (h .stand j) (2 * n) (e j)) (2 * n + 1) (g j))
+              put ∙ (λ j. set (set (h .stand j) (2 * n) (pos (e j))) (2 * n + 1) (pos (g j)))
               ∙ holding-next (h .written) n (h .count) p list₀ room;
           upto = omega arith;
         }

@@ -9,16 +9,15 @@ use borrow.Author.Tests.{eqb-true}
 use lib.ListN.{length, getD, drop, length-drop}
 use lib.Seq.{drop-cons, drop-drop}
 use mir.Val.{boolByte}
-use Rattle.netpbm.specs.declared.Count.the-variants as counts
-use Rattle.plain.specs.declared.Tally.{Tally}
 use Rattle.netpbm.specs.Space.{whiteSpace}
-use Rattle.netpbm.specs.Raster.{Raster, pixels}
-use Rattle.plain.specs.Plain.{plain, plainAt}
+use Rattle.netpbm.specs.Raster.{pixels}
 use Rattle.netpbm.specs.Steps.{whites, WhiteThen, Passes, counted}
-use Rattle.plain.specs.Steps.{badByte, blackByte, whiteByte, number, Numbers, Tallied}
-use Rattle.plain.proofs.Plain.{blank-ignored, black-first, white-first}
 use Rattle.netpbm.proofs.Counting.{counted-black, counted-white}
 use Rattle.netpbm.proofs.Writing.{onto-pixels}
+use Rattle.plain.specs.declared.Tally.{Tally}
+use Rattle.plain.specs.Plain.{plain, plainAt}
+use Rattle.plain.specs.Steps.{badByte, blackByte, whiteByte, number, Numbers, Tallied}
+use Rattle.plain.proofs.Plain.{blank-ignored, black-first, white-first}
 
 -- ---- how many pass a test
 pub bool-byte-few : (t : Bool) → boolByte t ≤ 1
@@ -161,28 +160,6 @@ white-numbers (suc d) (b ∷ l) n i m q long none e f = by-kind (kind-of b) n m 
         }
     by-kind (bad s o z) zero m e f again = absurd (let h = rw s at f in let z : _≡_ {A = ℕ} 0 1 = cc in omega arith)
     by-kind (bad s o z) (suc n) m e f again = absurd (let h = rw (s, o, z) at f in let z : _≡_ {A = ℕ} 0 1 = cc in omega arith)
-
--- ---- white pixels are passed
-pub passes-none : (raster : ℕ → ℕ → Raster) (at : ℕ) → Passes raster at 0 at
-passes-none raster at n l e =
-    let a : n - 0 ≡ n = omega arith in
-    record { fits = omega arith; rest = l; behind = ap (λ k. raster k at) a ∙ e; same = refl }
-
-whites-more : (m k : ℕ) (l : List Bool) → whites m (whites k l) ≡ whites (m + k) l
-whites-more zero k l = let e : k ≡ 0 + k = omega arith in ap (λ j. whites j l) e
-whites-more (suc m) k l = let e : suc (m + k) ≡ suc m + k = omega arith in ap (λ q. false ∷ q) (whites-more m k l) ∙ ap (λ j. whites j l) e
-
-pub passes-then : (raster : ℕ → ℕ → Raster) (at m i : ℕ) → Passes raster at m i → (k to : ℕ) → Passes raster i k to → Passes raster at (m + k) to
-passes-then raster at m i p k to q n l e =
-    let v = p n l e in
-    let w = q (n - m) (v .rest) (v .behind) in
-    let a : n - (m + k) ≡ n - m - k = omega arith in
-    record {
-      fits = omega (arith, v .fits, w .fits);
-      rest = w .rest;
-      behind = ap (λ j. raster j to) a ∙ w .behind;
-      same = v .same ∙ ap (whites m) (w .same) ∙ whites-more m k (w .rest);
-    }
 
 -- ---- a part of the file
 module _ (bytes : List ℕ) (i to : ℕ) (t : Tally) (before : i ≤ to) (inside : to ≤ length bytes) (h : Tallied bytes i to t) where

@@ -84,8 +84,7 @@ pub fn write(bytes: &[u8], at: usize, width: usize, pixels: usize, list: &mut [i
         match crate::fetch(bytes, i) {
             Pixel::Black(next) => {
                 row = row_of(row, k, width);
-                list[2 * n] = (k - row.first) as i32;
-                list[2 * n + 1] = row.y as i32;
+                netpbm::put(list, n, k - row.first, row.y);
                 n += 1;
                 k += 1;
                 i = next;

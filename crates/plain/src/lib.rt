@@ -15,17 +15,17 @@ use netpbm::Count;
 const PART: usize = 64;
 
 // The next pixel and the place behind it; or a fault, number and place.
-pub enum Pixel {
+enum Pixel {
     Black(usize),
     White(usize),
     Fault(u32, usize),
 }
 
 // How many of some bytes are black pixels, white pixels, and neither a pixel nor white space.
-pub struct Tally {
-    pub black: usize,
-    pub white: usize,
-    pub bad: usize,
+struct Tally {
+    black: usize,
+    white: usize,
+    bad: usize,
 }
 
 // How many black pixels were counted; how many pixels are left, and from which place on.
@@ -51,7 +51,7 @@ fn blanks(bytes: &[u8], at: usize) -> usize
 }
 
 // How pixels are fetched: the next one from a place on, behind white space.
-pub fn fetch(bytes: &[u8], at: usize) -> Pixel
+fn fetch(bytes: &[u8], at: usize) -> Pixel
     ensures { λ r. ⌜ Fetches (plainAt (now (bytes .entry))) at r ⌝ }
 {
     let i = blanks(bytes, at);
@@ -116,7 +116,7 @@ fn bad_byte(b: u8) -> bool
 }
 
 // The bytes from one place to another, tallied.
-pub fn tally_part(bytes: &[u8], from: usize, to: usize) -> Tally
+fn tally_part(bytes: &[u8], from: usize, to: usize) -> Tally
     requires { ⌜ (from ≤ to) × (to ≤ length (now bytes)) × (to < from + 256) ⌝ }
     ensures { λ r. ⌜ Tallied (now (bytes .entry)) from to r ⌝ }
 {
@@ -139,7 +139,7 @@ pub fn tally_part(bytes: &[u8], from: usize, to: usize) -> Tally
 }
 
 // Whether a whole part stands at a place.
-pub fn whole_part(bytes: &[u8], at: usize) -> bool
+fn whole_part(bytes: &[u8], at: usize) -> bool
     ensures { λ r. ⌜ (r ≡ true → at + part ≤ length (now (bytes .entry))) ⌝ }
 {
     if at < bytes.len() {
@@ -158,19 +158,11 @@ fn count_parts(bytes: &[u8], at: usize, pixels: usize) -> Rest
     while whole_part(bytes, i) {
         let part = tally_part(bytes, i, i + PART);
         if 0 < part.bad {
-            return Rest {
-                black,
-                pixels: left,
-                at: i,
-            };
+            break;
         }
         let passed = part.black + part.white;
         if left < passed {
-            return Rest {
-                black,
-                pixels: left,
-                at: i,
-            };
+            break;
         }
         black += part.black;
         left -= passed;

@@ -20,14 +20,6 @@ loop-holds c = record { reads = refl; forward = omega arith; inside = omega arit
 shared-slice-read-b : tie.Need-shared-slice-read-b Inv-loop μ-loop
 shared-slice-read-b c = omega arith
 
-returns : tie.Need-returns Inv-loop μ-loop
-returns c = let l = c .before .before .before in
-    commenting-ends _ _ _ (l .loop .inv) (c .before .before .loop-test .taken) (inl (c .if1 .taken))
-
-returns-2 : tie.Need-returns-2 Inv-loop μ-loop
-returns-2 c = let l = c .before .before .before .before in
-    commenting-ends _ _ _ (l .loop .inv) (c .before .before .before .loop-test .taken) (inr (c .if2 .taken))
-
 add-i : tie.Need-add-i Inv-loop μ-loop
 add-i c = omega arith
 
@@ -38,8 +30,16 @@ loop-again : tie.Need-loop-again Inv-loop μ-loop
 loop-again c = let l = c .before .before .before .before in
     commenting-more _ _ _ (l .loop .inv) (c .before .before .before .loop-test .taken) (c .before .if1 .left) (c .if2 .left)
 
+returns : tie.Need-returns Inv-loop μ-loop
+returns c = commenting-cut _ _ _ (c .before .loop .inv) (c .loop-test .left)
+
+returns-2 : tie.Need-returns-2 Inv-loop μ-loop
+returns-2 c = let l = c .before .before .before in
+    commenting-ends _ _ _ (l .loop .inv) (c .before .before .loop-test .taken) (inl (c .if1 .taken))
+
 returns-3 : tie.Need-returns-3 Inv-loop μ-loop
-returns-3 c = commenting-cut _ _ _ (c .before .loop .inv) (c .loop-test .left)
+returns-3 c = let l = c .before .before .before .before in
+    commenting-ends _ _ _ (l .loop .inv) (c .before .before .before .loop-test .taken) (inr (c .if2 .taken))
 
 pub line-end-spec : {M : Type 1} → statement M
 line-end-spec =
@@ -49,9 +49,9 @@ line-end-spec =
     μ-loop
     loop-holds
     shared-slice-read-b
-    returns
-    returns-2
     add-i
     loop-less
     loop-again
+    returns
+    returns-2
     returns-3)

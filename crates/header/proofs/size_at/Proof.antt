@@ -3,10 +3,10 @@ use Prim.Native.Nat.{_-_}
 use mathlib.Core.Logic.{inl, inr}
 use native.Mathlib.Omega.{arith}
 use lib.ListN.{length}
+use Rattle.header.specs.Bytes.{digit}
 use Rattle.header.proofs.Tests.{no-digit}
 use Rattle.header.proofs.Parts.{starts-end}
 use Rattle.header.proofs.Sizes.{Sizing, sizing-begins, sizing-more, sizing-ends, no-digit-read}
-use Rattle.header.specs.Bytes.{digit}
 use Rattle.header.proofs.size_at.Statement.{statement}
 use Rattle.header.proofs.size_at.Tie as tie
 
@@ -22,14 +22,6 @@ loop-holds c = sizing-begins _ _ (c .before .pre)
 shared-slice-read-b : tie.Need-shared-slice-read-b Inv-loop μ-loop
 shared-slice-read-b c = omega arith
 
-returns : tie.Need-returns Inv-loop μ-loop
-returns c = let l = c .before .before .before in
-    sizing-ends _ _ _ _ (l .loop .inv) (no-digit-read _ _ (c .before .before .loop-test .taken) (no-digit _ (inl (c .if1 .taken))))
-
-returns-2 : tie.Need-returns-2 Inv-loop μ-loop
-returns-2 c = let l = c .before .before .before .before in
-    sizing-ends _ _ _ _ (l .loop .inv) (no-digit-read _ _ (c .before .before .before .loop-test .taken) (no-digit _ (inr (c .if2 .taken))))
-
 longer-requires : tie.Need-longer-requires Inv-loop μ-loop
 longer-requires c κs = omega arith
 
@@ -44,8 +36,16 @@ loop-again c = let l = c .before .before .before .before .before in
     sizing-more _ _ _ _ (l .loop .inv) (c .before .before .before .before .loop-test .taken) (c .before .before .if1 .left) (c .before .if2 .left)
     _ (c .longer .ensures)
 
+returns : tie.Need-returns Inv-loop μ-loop
+returns c = sizing-ends _ _ _ _ (c .before .loop .inv) (starts-end digit _ _ (c .loop-test .left))
+
+returns-2 : tie.Need-returns-2 Inv-loop μ-loop
+returns-2 c = let l = c .before .before .before in
+    sizing-ends _ _ _ _ (l .loop .inv) (no-digit-read _ _ (c .before .before .loop-test .taken) (no-digit _ (inl (c .if1 .taken))))
+
 returns-3 : tie.Need-returns-3 Inv-loop μ-loop
-returns-3 c = sizing-ends _ _ _ _ (c .before .loop .inv) (starts-end digit _ _ (c .loop-test .left))
+returns-3 c = let l = c .before .before .before .before in
+    sizing-ends _ _ _ _ (l .loop .inv) (no-digit-read _ _ (c .before .before .before .loop-test .taken) (no-digit _ (inr (c .if2 .taken))))
 
 pub size-at-spec : {M : Type 1} → statement M
 size-at-spec =
@@ -55,10 +55,10 @@ size-at-spec =
     μ-loop
     loop-holds
     shared-slice-read-b
-    returns
-    returns-2
     longer-requires
     add-i
     loop-less
     loop-again
+    returns
+    returns-2
     returns-3)

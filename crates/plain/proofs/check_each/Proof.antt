@@ -4,13 +4,13 @@ use mathlib.Core.Path.{_≡_, _∙_, subst}
 use native.Mathlib.Omega.{arith}
 use native.Mathlib.Nat.{add-zero}
 use denote.Ref.{now}
-use Rattle.netpbm.specs.Raster.{Raster}
-use Rattle.plain.specs.Plain.{plainAt}
 use Rattle.netpbm.specs.declared.Count.the-variants as counts
+use Rattle.netpbm.specs.Raster.{Raster}
 use Rattle.netpbm.specs.Steps.{counted}
+use Rattle.netpbm.proofs.Counting.{Counting, counting-none, counting-black, counting-white, counting-fault, counting-ends}
+use Rattle.plain.specs.Plain.{plainAt}
 use Rattle.plain.specs.Steps.{Fetches}
 use Rattle.plain.proofs.Plain.{complete, left-over}
-use Rattle.netpbm.proofs.Counting.{Counting, counting-none, counting-black, counting-white, counting-fault, counting-ends}
 use Rattle.plain.proofs.check_each.Statement.{statement}
 use Rattle.plain.proofs.check_each.Tie as tie
 

@@ -33,9 +33,6 @@ add-tally-part c = omega (arith, inside c)
 tally-part-requires : tie.Need-tally-part-requires Inv-loop μ-loop
 tally-part-requires c κs = omega (arith, inside c)
 
-returns : tie.Need-returns Inv-loop μ-loop
-returns c = c .before .before .before .before .before .loop .inv
-
 -- a part with no fault, and the turn in which it was tallied
 abbrev tallied : tie.After-struct-known3 Inv-loop μ-loop → tie.After-tally-part Inv-loop μ-loop
 tallied c = c .before .before .before .before .before
@@ -45,9 +42,6 @@ turn c = tallied c .before
 
 add-passed : tie.Need-add-passed Inv-loop μ-loop
 add-passed c = omega arith
-
-returns-2 : tie.Need-returns-2 Inv-loop μ-loop
-returns-2 c = c .before .before .before .before .before .before .before .loop .inv
 
 add-black : tie.Need-add-black Inv-loop μ-loop
 add-black c = omega arith
@@ -69,8 +63,14 @@ loop-again c = let p = tallied c in
       few = omega (arith, l .loop .inv .few, c .before .if3 .left);
     }
 
+returns : tie.Need-returns Inv-loop μ-loop
+returns c = c .before .before .loop .inv
+
+returns-2 : tie.Need-returns-2 Inv-loop μ-loop
+returns-2 c = c .before .before .before .before .before .loop .inv
+
 returns-3 : tie.Need-returns-3 Inv-loop μ-loop
-returns-3 c = c .before .before .loop .inv
+returns-3 c = c .before .before .before .before .before .before .before .loop .inv
 
 pub count-parts-spec : {M : Type 1} → statement M
 count-parts-spec =
@@ -82,11 +82,11 @@ count-parts-spec =
     whole-part-requires
     add-tally-part
     tally-part-requires
-    returns
     add-passed
-    returns-2
     add-black
     add-i
     loop-less
     loop-again
+    returns
+    returns-2
     returns-3)

@@ -3,10 +3,11 @@ use Prim.Native.Nat.{_+_, _-_, _≤_}
 use native.Mathlib.Omega.{arith}
 use denote.Ref.{now}
 use lib.ListN.{length}
-use Rattle.plain.specs.Plain.{plainAt}
 use Rattle.netpbm.specs.Steps.{Passes}
+use Rattle.netpbm.proofs.Passing.{passes-none, passes-then}
+use Rattle.plain.specs.Plain.{plainAt}
 use Rattle.plain.specs.Steps.{part}
-use Rattle.plain.proofs.Tallies.{passes-none, passes-then, passes-part}
+use Rattle.plain.proofs.Tallies.{passes-part}
 use Rattle.plain.proofs.black.pass_white.Statement.{statement}
 use Rattle.plain.proofs.black.pass_white.Tie as tie
 

@@ -1,22 +1,19 @@
 -- `plain::black::write` meets its contract: a turn of the loop passes one pixel, and writes it if it is black; behind a white one it passes
 -- others. Assumes nothing.
 use Prim.Native.Nat.{ℕ, suc, _+_, _-_, _<_, _^_}
-use mathlib.Core.Path.{_≡_, _∙_, ap, subst}
+use mathlib.Core.Path.{_≡_, subst}
 use mathlib.Core.Bool.{true}
 use native.Mathlib.Nat.{div-le-self}
 use native.Mathlib.Omega.{arith}
 use denote.Ref.{now}
-use lib.ListN.{length, drop, length-set}
-use lib.IntN.{pos}
-use mir.Syntax.{w32}
-use mir.ValLaws.{toZ-pos}
+use lib.ListN.{length, drop}
 use Rattle.lattice.specs.Point.{most}
 use Rattle.netpbm.specs.Raster.{Raster, onto}
+use Rattle.netpbm.proofs.Writing.{Writing, writing-none, writing-black, writing-white, writing-passed, writing-fault, writing-length, writing-ends, room-left}
 use Rattle.plain.specs.Plain.{plainAt}
 use Rattle.plain.specs.Steps.{Fetches, Begun}
 use Rattle.plain.proofs.Plain.{none-left}
 use Rattle.plain.proofs.Rows.{begun-first, begun-later, begun-next, row-starts, column}
-use Rattle.netpbm.proofs.Writing.{Writing, writing-none, writing-black, writing-white, writing-passed, writing-fault, writing-length, writing-ends, room-left}
 use Rattle.plain.proofs.black.write.Statement.{statement}
 use Rattle.plain.proofs.black.write.Tie as tie
 
@@ -69,41 +66,16 @@ row-of-requires : tie.Need-row-of-requires Inv-loop μ-loop
 row-of-requires c κs = let h = head (c .before) in
     (h .loop .inv .1, h .before .before .pre .wide)
 
-sub-list : tie.Need-sub-list Inv-loop μ-loop
-sub-list c = row-starts _ _ _ (c .before .row-of .ensures)
+sub-put : tie.Need-sub-put Inv-loop μ-loop
+sub-put c = row-starts _ _ _ (c .before .before .row-of .ensures)
 
-cast-list : tie.Need-cast-list Inv-loop μ-loop
-cast-list c = record { sfits = omega (arith, small (turn (c .before))) }
-
-mul-list : tie.Need-mul-list Inv-loop μ-loop
-mul-list c = omega (arith, room (turn (c .before)))
-
-mul-list-2 : tie.Need-mul-list-2 Inv-loop μ-loop
-mul-list-2 c = omega (arith, room (turn (c .before)))
-
-slice-set-from-list : tie.Need-slice-set-from-list Inv-loop μ-loop
-slice-set-from-list c = let h = head (turn (c .before)) in
-    omega (arith, room (turn (c .before)), long h, h .before .before .pre .room)
-
-cast-list-2 : tie.Need-cast-list-2 Inv-loop μ-loop
-cast-list-2 c = let r = c .before .before in
-    record { sfits = omega (arith, row-small r) }
-
-mul-t16 : tie.Need-mul-t16 Inv-loop μ-loop
-mul-t16 c = omega (arith, room (turn (c .before .before)))
-
-add-t18 : tie.Need-add-t18 Inv-loop μ-loop
-add-t18 c = omega (arith, room (turn (c .before .before)))
-
-mul-t19 : tie.Need-mul-t19 Inv-loop μ-loop
-mul-t19 c = omega (arith, room (turn (c .before .before)))
-
-slice-set-from-list-2 : tie.Need-slice-set-from-list-2 Inv-loop μ-loop
-slice-set-from-list-2 c = let h = head (turn (c .before .before)) in
-    simp length-set (omega (arith, room (turn (c .before .before)), long h, h .before .before .pre .room))
+put-requires : tie.Need-put-requires Inv-loop μ-loop
+put-requires c κs = let r = c .before .before in
+    let h = head (turn r) in
+    omega (arith, room (turn r), long h, h .before .before .pre .room, small (turn r), row-small r)
 
 add-n : tie.Need-add-n Inv-loop μ-loop
-add-n c = omega (arith, room (turn (c .before .before)))
+add-n c = omega (arith, room (turn (c .before .before .before .before)))
 
 add-k : tie.Need-add-k Inv-loop μ-loop
 add-k c = omega arith
@@ -112,16 +84,12 @@ loop-less : tie.Need-loop-less Inv-loop μ-loop
 loop-less c = omega arith
 
 loop-again : tie.Need-loop-again Inv-loop μ-loop
-loop-again c = let r = c .before .before in
+loop-again c = let r = c .before .before .before .before in
     let t = turn r in
     let h = head t in
-    let s = h .before .before in
-    let k = h .loop .k in
-    let row = r .row-of .result in (
+    let s = h .before .before in (
       writing-black _ _ _ _ _ _ _ _ _ (h .loop .inv .0) (t .before .before .before .loop-test .taken) (t .next .given .0 .0) (fetched t) (s .pre .few)
-          (omega (arith, room t, s .pre .room)) _ _
-          (toZ-pos w32 (k - row .first) (omega (arith, small t)) ∙ ap pos (column _ _ _ (r .row-of .ensures)))
-          (toZ-pos w32 (row .y) (row-small r) ∙ ap pos (r .row-of .ensures .y)),
+          (omega (arith, room t, s .pre .room)) _ _ (column _ _ _ (r .row-of .ensures)) (r .row-of .ensures .y) _ (c .before .put .ensures),
       begun-next _ _ _ (r .row-of .ensures),
     )
 
@@ -190,16 +158,8 @@ write-spec =
     fetch-requires
     enum-known-next
     row-of-requires
-    sub-list
-    cast-list
-    mul-list
-    mul-list-2
-    slice-set-from-list
-    cast-list-2
-    mul-t16
-    add-t18
-    mul-t19
-    slice-set-from-list-2
+    sub-put
+    put-requires
     add-n
     add-k
     loop-less
