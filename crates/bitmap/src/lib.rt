@@ -61,7 +61,7 @@ pub fn read(bytes: &[u8], list: &mut [i32; ROOM]) -> Picture
                         if packed::MOST < points {
                             return refused(2, 0);
                         }
-                        plain::write(bytes, at, width, pixels, list);
+                        black::write(bytes, at, width, pixels, list);
                         return Picture {
                             number: 0,
                             place: 0,

@@ -1,5 +1,4 @@
 -- Laws of plain pixels and of the loops that read them.
 pub mod Plain
 pub mod Tallies
-pub mod Rows
 pub mod Outcome

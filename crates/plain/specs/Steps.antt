@@ -2,7 +2,7 @@
 use mathlib.Core.Path.{_≡_}
 use mathlib.Core.Bool.{Bool, true, false, not, _||_}
 use mathlib.Core.List.{List, [], _∷_}
-use Prim.Native.Nat.{ℕ, suc, _+_, _*_, _/_, _≤_, _<_}
+use Prim.Native.Nat.{ℕ, suc, _+_, _≤_, _<_}
 use lib.Dec.{eqb}
 use lib.ListN.{length, getD, drop}
 use mir.Val.{boolByte}
@@ -13,7 +13,6 @@ use Rattle.plain.specs.declared.Pixel.{Pixel}
 use Rattle.plain.specs.declared.Pixel.the-variants.{Black, White, Fault}
 use Rattle.plain.specs.declared.Tally.{Tally}
 use Rattle.plain.specs.declared.Rest.{Rest}
-use Rattle.plain.specs.declared.black.Row.{Row}
 use Rattle.plain.specs.Plain.{plainAt}
 
 -- r is the next byte that is no white space, or past the end
@@ -60,12 +59,3 @@ part = 64
 pub record Leaves (raster : ℕ → ℕ → Raster) (at all : ℕ) (rest : Rest) : Type 0 where
   pub same : counted (rest .black) (raster (rest .pixels) (rest .at)) ≡ counted 0 (raster all at)
   pub few : rest .black + rest .pixels ≤ all
-
--- a row that begins no later than pixel k; the row of pixel k
-pub record Begun (width k : ℕ) (row : Row) : Type 0 where
-  pub first : row .first ≡ row .y * width
-  pub before : row .first ≤ k
-
-pub record RowOf (width k : ℕ) (row : Row) : Type 0 where
-  pub y : row .y ≡ k / width
-  pub first : row .first ≡ k / width * width

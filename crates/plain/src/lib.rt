@@ -1,6 +1,4 @@
-// The pixels of a plain bitmap: checked and counted, by parts up to the first fault, and there one by one; and the black ones as points.
-mod black;
-
+// The pixels of a plain bitmap: checked and counted, by parts up to the first fault, and there one by one.
 ghost use mathlib.Core.Path.{_≡_};
 ghost use mathlib.Core.Bool.{true};
 ghost use Prim.Native.Nat.{_+_, _^_, _≤_, _<_};
@@ -8,24 +6,23 @@ ghost use lib.ListN.{length};
 ghost use Rattle.netpbm.specs.Steps.{counted};
 ghost use Rattle.plain.specs.Plain.{plainAt};
 ghost use Rattle.plain.specs.Steps.{Skips, Fetches, badByte, part, Tallied, Leaves};
-pub use black::write;
 use netpbm::Count;
 
 // How many bytes are tallied at a time: so few that a byte holds each count, which lets the compiler count sixteen bytes at once.
-const PART: usize = 64;
+pub const PART: usize = 64;
 
 // The next pixel and the place behind it; or a fault, number and place.
-enum Pixel {
+pub enum Pixel {
     Black(usize),
     White(usize),
     Fault(u32, usize),
 }
 
 // How many of some bytes are black pixels, white pixels, and neither a pixel nor white space.
-struct Tally {
-    black: usize,
-    white: usize,
-    bad: usize,
+pub struct Tally {
+    pub black: usize,
+    pub white: usize,
+    pub bad: usize,
 }
 
 // How many black pixels were counted; how many pixels are left, and from which place on.
@@ -51,7 +48,7 @@ fn blanks(bytes: &[u8], at: usize) -> usize
 }
 
 // How pixels are fetched: the next one from a place on, behind white space.
-fn fetch(bytes: &[u8], at: usize) -> Pixel
+pub fn fetch(bytes: &[u8], at: usize) -> Pixel
     ensures { λ r. ⌜ Fetches (plainAt (now (bytes .entry))) at r ⌝ }
 {
     let i = blanks(bytes, at);
@@ -116,7 +113,7 @@ fn bad_byte(b: u8) -> bool
 }
 
 // The bytes from one place to another, tallied.
-fn tally_part(bytes: &[u8], from: usize, to: usize) -> Tally
+pub fn tally_part(bytes: &[u8], from: usize, to: usize) -> Tally
     requires { ⌜ (from ≤ to) × (to ≤ length (now bytes)) × (to < from + 256) ⌝ }
     ensures { λ r. ⌜ Tallied (now (bytes .entry)) from to r ⌝ }
 {
@@ -139,7 +136,7 @@ fn tally_part(bytes: &[u8], from: usize, to: usize) -> Tally
 }
 
 // Whether a whole part stands at a place.
-fn whole_part(bytes: &[u8], at: usize) -> bool
+pub fn whole_part(bytes: &[u8], at: usize) -> bool
     ensures { λ r. ⌜ (r ≡ true → at + part ≤ length (now (bytes .entry))) ⌝ }
 {
     if at < bytes.len() {

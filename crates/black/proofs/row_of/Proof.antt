@@ -1,11 +1,11 @@
--- `plain::black::row_of` meets its contract: a pixel is in the row whose first pixel is less than a width before it. Assumes nothing.
+-- `black::row_of` meets its contract: a pixel is in the row whose first pixel is less than a width before it. Assumes nothing.
 use mathlib.Core.Path.{refl}
 use borrow.Author.Needs.{needs}
 use native.Mathlib.Nat.{div-mul-le-self}
 use native.Mathlib.Omega.{arith}
-use Rattle.plain.proofs.Rows.{row-begun}
-use Rattle.plain.proofs.black.row_of.Statement.{statement}
-use Rattle.plain.proofs.black.row_of.Tie as tie
+use Rattle.black.proofs.Rows.{row-begun}
+use Rattle.black.proofs.row_of.Statement.{statement}
+use Rattle.black.proofs.row_of.Tie as tie
 
 sub-if1 : tie.Need-sub-if1
 sub-if1 c = search needs

@@ -1,4 +1,4 @@
--- `plain::black::write` meets its contract: a turn of the loop passes one pixel, and writes it if it is black; behind a white one it passes
+-- `black::write` meets its contract: a turn of the loop passes one pixel, and writes it if it is black; behind a white one it passes
 -- others. Assumes nothing.
 use Prim.Native.Nat.{ℕ, suc, _+_, _-_, _<_, _^_}
 use mathlib.Core.Path.{_≡_, subst}
@@ -10,12 +10,13 @@ use lib.ListN.{length, drop}
 use Rattle.lattice.specs.Point.{most}
 use Rattle.netpbm.specs.Raster.{Raster, onto}
 use Rattle.netpbm.proofs.Writing.{Writing, writing-none, writing-black, writing-white, writing-passed, writing-fault, writing-length, writing-ends, room-left}
 use Rattle.plain.specs.Plain.{plainAt}
-use Rattle.plain.specs.Steps.{Fetches, Begun}
+use Rattle.plain.specs.Steps.{Fetches}
 use Rattle.plain.proofs.Plain.{none-left}
-use Rattle.plain.proofs.Rows.{begun-first, begun-later, begun-next, row-starts, column}
-use Rattle.plain.proofs.black.write.Statement.{statement}
-use Rattle.plain.proofs.black.write.Tie as tie
+use Rattle.black.specs.Row.{Begun}
+use Rattle.black.proofs.Rows.{begun-first, begun-later, begun-next, row-starts, column}
+use Rattle.black.proofs.write.Statement.{statement}
+use Rattle.black.proofs.write.Tie as tie
 
 abbrev Inv-loop : tie.InvT-loop
 Inv-loop bytes at width pixels list₀ row₀ n₀ k₀ i₀ until₀ list row n k i until =

@@ -3,8 +3,8 @@ use mathlib.Core.Path.{_≡_, sym, _∙_, ap}
 use Prim.Native.Nat.{ℕ, _+_, _*_, _-_, _/_, _%_, _≤_, _<_}
 use native.Mathlib.Nat.{div-mul-le-self, div-eq-of-lt-le, mod-eq-sub-div-mul}
 use native.Mathlib.Omega.{arith}
-use Rattle.plain.specs.declared.black.Row.{Row}
-use Rattle.plain.specs.Steps.{Begun, RowOf}
+use Rattle.black.specs.declared.Row.{Row}
+use Rattle.black.specs.Row.{Begun, RowOf}
 
 pub begun-first : (width : ℕ) → Begun width 0 (record { y = 0; first = 0 })
 begun-first width = record { first = omega arith; before = omega arith }

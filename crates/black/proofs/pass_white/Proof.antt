@@ -1,15 +1,15 @@
--- `plain::black::pass_white` meets its contract: a turn of the loop passes one part more. Assumes nothing.
+-- `black::pass_white` meets its contract: a turn of the loop passes one part more. Assumes nothing.
 use Prim.Native.Nat.{_+_, _-_, _≤_}
 use native.Mathlib.Omega.{arith}
 use denote.Ref.{now}
 use lib.ListN.{length}
 use Rattle.netpbm.specs.Steps.{Passes}
 use Rattle.netpbm.proofs.Passing.{passes-none, passes-then}
 use Rattle.plain.specs.Plain.{plainAt}
 use Rattle.plain.specs.Steps.{part}
 use Rattle.plain.proofs.Tallies.{passes-part}
-use Rattle.plain.proofs.black.pass_white.Statement.{statement}
-use Rattle.plain.proofs.black.pass_white.Tie as tie
+use Rattle.black.proofs.pass_white.Statement.{statement}
+use Rattle.black.proofs.pass_white.Tie as tie
 
 abbrev Inv-loop : tie.InvT-loop
 Inv-loop bytes at until pixels₀ i₀ pixels i = (Passes (plainAt bytes) at pixels i) × (pixels + at ≤ i)

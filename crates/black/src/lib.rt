@@ -4,10 +4,10 @@ ghost use Prim.Native.Nat.{_≤_};
 ghost use Rattle.lattice.specs.Room.{holding};
 ghost use Rattle.netpbm.specs.Raster.{blackIn};
 ghost use Rattle.netpbm.specs.Steps.{Passes, Writable};
 ghost use Rattle.plain.specs.Plain.{plainAt};
-ghost use Rattle.plain.specs.Steps.{Begun, RowOf};
-use crate::PART;
-use crate::Pixel;
+ghost use Rattle.black.specs.Row.{Begun, RowOf};
+use plain::PART;
+use plain::Pixel;
 
 // How many white pixels were passed; the place behind them; and a place up to which no part is worth a look.
 struct Passed {
@@ -35,8 +35,8 @@ fn pass_white(bytes: &[u8], at: usize, until: usize) -> Passed
     }
     let mut pixels: usize = 0;
     let mut i = at;
-    while crate::whole_part(bytes, i) {
-        let part = crate::tally_part(bytes, i, i + PART);
+    while plain::whole_part(bytes, i) {
+        let part = plain::tally_part(bytes, i, i + PART);
         if 0 < part.black {
             return Passed {
                 pixels,
@@ -81,7 +81,7 @@ pub fn write(bytes: &[u8], at: usize, width: usize, pixels: usize, list: &mut [i
     let mut i = at;
     let mut until = at;
     while k < pixels {
-        match crate::fetch(bytes, i) {
+        match plain::fetch(bytes, i) {
             Pixel::Black(next) => {
                 row = row_of(row, k, width);
                 netpbm::put(list, n, k - row.first, row.y);
