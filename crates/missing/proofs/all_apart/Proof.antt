@@ -2,7 +2,7 @@
 use Rattle.missing.proofs.all_apart.Statement.{statement}
 use Rattle.missing.proofs.all_apart.Tie as tie
 use Prim.Native.Nat.{ℕ, _-_, _<_}
-use mathlib.Core.Path.{_∙_, ap, subst}
+use mathlib.Core.Path.{_≡_, _∙_, ap, subst}
 use native.Mathlib.Omega.{arith}
 use denote.Ref.{now}
 use lib.ListN.{length}
