@@ -1,5 +1,5 @@
 -- The packed points of a list of numbers, by place, and a corner list of numbers as one of packed points. Assumes nothing.
-use mathlib.Core.Path.{_≡_, refl, sym, _∙_, subst}
+use mathlib.Core.Path.{_≡_, refl, sym, _∙_, ap, subst}
 use mathlib.Core.List.{List, [], _∷_, map}
 use Prim.Native.Nat.{ℕ, zero, suc, _/_, _<_}
 use native.Mathlib.Omega.{arith}
@@ -40,6 +40,11 @@ module _ (list : List ℤ) where
     -- a point can be read at each place
     pub readable : (i : ℕ) → i < length (keysOf list) → (i < length (points list)) × InRange (point (points list) i)
     readable i h = let l : i < length (points list) = omega (arith, h, keys-many) in (l, all-place InRange (points list) range i l)
+
+    pub key-point : (i : ℕ) → i < length (keysOf list) → unpacked (getD (keysOf list) i 0) ≡ point (points list) i
+    key-point i h =
+        let r = readable i h in
+        ap unpacked (sym (key-of i (r .0))) ∙ unpacked-packed (point (points list) i) (r .1)
 
     pub keys-below : (i : ℕ) → i < length (keysOf list) → getD (keysOf list) i 0 < cells
     keys-below i h =

@@ -4,9 +4,8 @@ use mathlib.Core.Logic.{_⊎_, inl, inr}
 use mathlib.Core.List.{List, [], _∷_}
 use Prim.Native.Nat.{ℕ, _+_, _-_, _*_, _/_, _%_, _≤_, _<_}
 use native.Mathlib.Omega.{arith}
-use borrow.Author.Count.{below-more}
 use lib.Dec.{eqb}
-use lib.ListN.{length, getD}
+use lib.ListN.{length}
 use lib.IntN.{ℤ, pos, _+ℤ_}
 use lib.Signed.{_≤ℤ_, _<ℤ_}
 use mir.Syntax.{w32}

@@ -9,7 +9,7 @@ use lib.ListN.{length, getD}
 use lib.IntN.{ℤ, pos, _+ℤ_}
 use lib.Signed.{_≤ℤ_, _<ℤ_}
 use Rattle.whole.proofs.Whole.{ring, quote, gap≤, gap<, _⊞_, _⋆≡_, linear≤, linear<, linear⊥, le-of-equal}
-use Rattle.lattice.specs.Point.{Point, least, InRange, points, In, Before, row, Lists}
+use Rattle.lattice.specs.Point.{Point, least, InRange, points, In, row, Lists}
 use Rattle.lattice.specs.Hull.{InHull, member, segment, triangle, Of}
 use Rattle.lattice.proofs.Lists.{either, all-in}
 use Rattle.lattice.proofs.Decide.{both, equal?, kept?}
