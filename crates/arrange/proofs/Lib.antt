@@ -3,3 +3,4 @@ pub mod Marking
 pub mod Filling
 pub mod Differing
 pub mod Sorting
+pub mod Rising

@@ -4,7 +4,7 @@
 use mathlib.Core.List.{List}
 use lib.IntN.{ℤ}
 use Rattle.order.specs.declared.Ordered.{Ordered}
-use Rattle.order.specs.declared.Ends.{Ends}
+use Rattle.rows.specs.declared.Ends.{Ends}
 use Rattle.order.specs.Order.{OrderPromise}
 use Rattle.rows.specs.Row.{RowEndsPromise, RowPromise}
 use Rattle.order.proofs.Ordering.{order-pinned}
