@@ -1,11 +1,13 @@
 -- Which packed points are corners, which rows have no point of the hull, which points of a row are misplaced. Assumes nothing.
 use mathlib.Core.Path.{_≡_, refl, sym, _∙_, ap, subst}
 use mathlib.Core.Logic.{_⊎_, inl, inr}
-use mathlib.Core.Bool.{Bool, true}
+use mathlib.Core.Bool.{Bool, true, false}
 use mathlib.Core.List.{List, [], _∷_}
 use Prim.Native.Nat.{ℕ, _+_, _-_, _/_, _%_, _≤_, _<_}
 use native.Mathlib.Omega.{arith}
-use lib.ListN.{length, getD}
+use borrow.Author.Tests.{eqb-true, eqb-false}
+use lib.Dec.{eqb}
+use lib.ListN.{length}
 use lib.IntN.{ℤ}
 use lib.Signed.{_≤ℤ_, _<ℤ_}
 use Rattle.whole.proofs.Whole.{quote, gap≤, gap<, _⊞_, linear⊥, le-or-lt, antisymmetric}
@@ -17,10 +19,10 @@ use Rattle.lattice.proofs.Places.{lt-or-le, nowhere, place-in, in-place, all-pl
 use Rattle.lattice.proofs.RowEnds.{inner-of-row-no-corner}
 use Rattle.lattice.proofs.Sandwich.{Spans, corner-list-of-spanned}
 use Rattle.lattice.proofs.CornerLists.{corner-list-shape}
-use Rattle.packed.specs.Packed.{Tells, side, placed, packed, unpacked}
+use Rattle.packed.specs.Packed.{Tells, side, moved, placed, packed, unpacked}
 use Rattle.packed.specs.Corners.{keysOf, Outline}
+use Rattle.packed.proofs.Border.{moved-small}
 use Rattle.packed.proofs.RowOrder.{placed-grows, placed-injective, unpacked-injective, unpacked-packed, before-packed}
-use Rattle.packed.proofs.KeysOf.{keys-many, key-point}
 use Rattle.packed.proofs.Tests.{tells-as}
 use Rattle.rows.specs.Row.{RunsTo}
 use Rattle.range.proofs.Passing.{Passing, passing-none, passing-stops, passing-ends}
@@ -33,17 +35,28 @@ use Rattle.walk.proofs.Loops.{Between, between-first, between-next}
 use Rattle.missing.specs.Missing.{MisplacedAt, FirstMisplaced, Apart, InOneRow, EndMisplaced}
 use Rattle.missing.proofs.Seeking.{apart-at}
 
--- ---- a corner
-module _ (corners : List ℤ) (range : All InRange (points corners)) (k i : ℕ) where
-  pub corner-here : i < length (keysOf corners) → getD (keysOf corners) i 0 ≡ k → In (unpacked k) (points corners)
-  corner-here l e =
-      subst (λ p. In p (points corners)) (sym (key-point corners range i l) ∙ ap unpacked e) (place-in (points corners) i (omega (arith, l, keys-many corners)))
+-- ---- a packed point by its row and its column
+pub same-column : (p : Point) (k r c : ℕ) → r ≡ moved (p .y) → c ≡ moved (p .x) → c < side → r ≡ k / side → Tells (eqb c (k % side)) (packed p ≡ k)
+same-column p k r c e f l d = by-test (eqb c (k % side)) refl
+  where
+    by-test : (t : Bool) → eqb c (k % side) ≡ t → Tells t (packed p ≡ k)
+    by-test true g = omega (arith, eqb-true c (k % side) g, e, f, d)
+    by-test false g = λ h. eqb-false c (k % side) g (omega (arith, h, e, f, l, d))
 
-  pub no-corner : Passing (length (keysOf corners)) (λ j. getD (keysOf corners) j 0 ≡ k) i → length (keysOf corners) ≤ i → In (unpacked k) (points corners) → ⊥
+pub other-row : (p : Point) → InRange p → (k r : ℕ) → r ≡ moved (p .y) → (r ≡ k / side → ⊥) → packed p ≡ k → ⊥
+other-row p range k r e n h = n (omega (arith, h, e, moved-small (p .x) (range .x-from) (range .x-to)))
+
+-- ---- a corner
+module _ (c : List Point) (range : All InRange c) (k i : ℕ) where
+  pub corner-here : i < length c → packed (point c i) ≡ k → In (unpacked k) c
+  corner-here l e =
+      subst (λ p. In p c) (sym (unpacked-packed (point c i) (all-place InRange c range i l)) ∙ ap unpacked e) (place-in c i l)
+
+  pub no-corner : Passing (length c) (λ j. packed (point c j) ≡ k) i → length c ≤ i → In (unpacked k) c → ⊥
   no-corner h l m =
-      let r = in-place (points corners) (unpacked k) m in
-      let u : r .0 < length (keysOf corners) = omega (arith, r .1, keys-many corners) in
-      h .clear (r .0) (omega (arith, u)) (unpacked-injective (getD (keysOf corners) (r .0) 0) k (key-point corners range (r .0) u ∙ sym (r .2)))
+      let r = in-place c (unpacked k) m in
+      h .clear (r .0) (omega (arith, r .1))
+      (unpacked-injective (packed (point c (r .0))) k (unpacked-packed (point c (r .0)) (all-place InRange c range (r .0) (r .1)) ∙ sym (r .2)))
 
 -- ---- no corners
 pub none-inside : (corners : List ℤ) → length (points corners) ≡ 0 → (missing : List ℤ) → FirstMisplaced corners missing 0
@@ -200,11 +213,11 @@ pub record Looking (corners missing : List ℤ) (last y begin : ℕ) : Type 0 wh
   pub ahead : begin < length (points missing) → Ahead corners y (point (points missing) begin)
 
 module _ {corners missing : List ℤ} (h : Outline corners) {peak : ℕ} (g : Peak (keysOf corners) peak) where
-  pub looking-none : Looking corners missing (lastRow corners peak) (firstRow corners) 0
-  looking-none = record {
-    between = between-first corners peak (some h g) g;
+  pub looking-none : (y : ℕ) → y ≡ firstRow corners → Looking corners missing (lastRow corners peak) y 0
+  looking-none y q = record {
+    between = between-first corners peak (some h g) g y q;
     passing = passing-none (length (points missing)) (MisplacedAt corners missing);
-    ahead = λ l. either (le-or-lt (placed (firstRow corners)) ((point (points missing) 0) .y)) (λ k. inr k) (λ k. inl k);
+    ahead = λ l. either (le-or-lt (placed y) ((point (points missing) 0) .y)) (λ k. inr k) (λ k. inl (subst (λ n. (point (points missing) 0) .y <ℤ placed n) q k));
   }
 
   module _ (y begin : ℕ) (d : Looking corners missing (lastRow corners peak) y begin) where

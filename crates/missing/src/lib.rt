@@ -2,10 +2,11 @@
 // a corner (refusal 10).
 ghost use mathlib.Core.Path.{_≡_};
 ghost use mathlib.Core.Bool.{true};
-ghost use Prim.Native.Nat.{_/_};
-ghost use Rattle.lattice.specs.Point.{InRange, points, In, All, Pairs, Before};
+ghost use Prim.Native.Nat.{_/_, _<_};
+ghost use lib.ListN.{length};
+ghost use Rattle.lattice.specs.Point.{InRange, points, point, In, All, Pairs, Before};
 ghost use Rattle.lattice.specs.Refusal.{Misplaced};
-ghost use Rattle.packed.specs.Packed.{Tells, side, unpacked};
+ghost use Rattle.packed.specs.Packed.{Tells, side, packed as packedOf, unpacked};
 ghost use Rattle.packed.specs.Corners.{keysOf, Outline};
 ghost use Rattle.stretch.specs.Stretch.{StretchOf, Peak};
 ghost use Rattle.missing.specs.Missing.{FirstFrom, FirstStray, FirstMisplaced, MisplacedAt, Apart, Sought, InOneRow, EndMisplaced};
@@ -63,6 +64,17 @@ fn find_stray(missing: &[i32]) -> usize
     i
 }
 
+// Whether the point at a place of a list is a packed one, by its row and its column: most differ in the row.
+fn is_at(list: &[i32], i: usize, k: u32) -> bool
+    requires { ⌜ (i < length (points (now list))) × InRange (point (points (now list)) i) ⌝ }
+    ensures { λ r. ⌜ Tells r (packedOf (point (points (now (list .entry))) i) ≡ k) ⌝ }
+{
+    if packed::row_at(list, i) == k / SIDE {
+        return packed::column_at(list, i) == k % SIDE;
+    }
+    false
+}
+
 // Whether a packed point is a corner.
 fn is_corner(corners: &[i32], k: u32) -> bool
     requires { ⌜ All InRange (points (now corners)) ⌝ }
@@ -71,7 +83,7 @@ fn is_corner(corners: &[i32], k: u32) -> bool
     let n = corners.len() / 2;
     let mut i: usize = 0;
     while i < n {
-        if packed::key_at(corners, i) == k {
+        if is_at(corners, i, k) {
             return true;
         }
         i += 1;
@@ -211,16 +223,17 @@ fn misplaced_by_rows(corners: &[i32], peak: usize, missing: &[i32]) -> usize
 {
     let n = missing.len() / 2;
     let apart = all_apart(corners, missing);
-    let last = packed::key_at(corners, peak) / SIDE;
-    let mut crossing = stretch::start(corners, peak);
+    let first = packed::row_at(corners, 0);
+    let last = packed::row_at(corners, peak);
+    let mut crossing = stretch::start(corners, peak, first, last);
     let mut begin: usize = 0;
-    let mut y = packed::key_at(corners, 0) / SIDE;
+    let mut y = first;
     while y <= last {
         if begin == n {
             return n;
         }
         let stretch = stretch::across(crossing);
-        crossing = stretch::next(corners, peak, y, crossing);
+        crossing = stretch::next(corners, peak, last, y, crossing);
         let end = walk::end_of_row(missing, packed::placed(y), begin);
         if ends_misplaced(corners, stretch, missing, apart, begin, end) {
             return misplaced_in_row(corners, stretch, missing, apart, begin, end);

@@ -1,7 +1,7 @@
 -- The packed points of a list of numbers, by place, and a corner list of numbers as one of packed points. Assumes nothing.
 use mathlib.Core.Path.{_≡_, refl, sym, _∙_, ap, subst}
 use mathlib.Core.List.{List, [], _∷_, map}
-use Prim.Native.Nat.{ℕ, zero, suc, _/_, _<_}
+use Prim.Native.Nat.{ℕ, zero, suc, _/_, _%_, _<_}
 use native.Mathlib.Omega.{arith}
 use lib.ListN.{length, getD, length-map}
 use lib.IntN.{ℤ}
@@ -9,8 +9,9 @@ use Rattle.lattice.specs.Point.{Point, InRange, points, point, All}
 use Rattle.lattice.specs.Hull.{CornerList}
 use Rattle.lattice.proofs.Numbers.{points-length}
 use Rattle.lattice.proofs.Places.{nowhere, all-place}
-use Rattle.packed.specs.Packed.{cells, packed, unpacked}
+use Rattle.packed.specs.Packed.{side, cells, moved, packed, unpacked}
 use Rattle.packed.specs.Corners.{Cornered, keysOf, Outline}
+use Rattle.packed.proofs.Border.{moved-small}
 use Rattle.packed.proofs.RowOrder.{packed-below, unpacked-packed}
 
 packed-at : (l : List Point) (i : ℕ) → i < length l → getD (map packed l) i 0 ≡ packed (point l i)
@@ -35,6 +36,17 @@ module _ (list : List ℤ) where
 
   pub key-of : (i : ℕ) → i < length (points list) → packed (point (points list) i) ≡ getD (keysOf list) i 0
   key-of i h = sym (packed-at (points list) i h)
+
+  -- its column and its row
+  module _ (i : ℕ) (h : i < length (points list)) (r : InRange (point (points list) i)) where
+    small : moved ((point (points list) i) .x) < side
+    small = moved-small ((point (points list) i) .x) (r .x-from) (r .x-to)
+
+    pub column-of : moved ((point (points list) i) .x) ≡ getD (keysOf list) i 0 % side
+    column-of = omega (arith, small, key-of i h)
+
+    pub row-of : moved ((point (points list) i) .y) ≡ getD (keysOf list) i 0 / side
+    row-of = omega (arith, small, key-of i h)
 
   module _ (range : All InRange (points list)) where
     -- a point can be read at each place

@@ -1,6 +1,6 @@
 // Points as the code holds them, each one number below 2^28 in row order, and the turn of three of them.
 ghost use mathlib.Core.Path.{_≡_};
-ghost use Prim.Native.Nat.{_<_};
+ghost use Prim.Native.Nat.{_/_, _%_, _<_};
 ghost use lib.IntN.{pos};
 ghost use lib.ListN.{length, getD};
 ghost use lib.Signed.{_≤ℤ_, ltZ};
@@ -66,7 +66,21 @@ pub fn packed(x: i32, y: i32) -> u32
     SIDE * moved(y) + moved(x)
 }
 
-// The point at a place of a list, packed: so a list is read where it stands.
+// A list is read where it stands: the column and the row of the point at a place, moved to start at 0, and the point, packed.
+pub fn column_at(list: &[i32], i: usize) -> u32
+    requires { ⌜ (i < length (points (now list))) × InRange (point (points (now list)) i) ⌝ }
+    ensures { λ r. ⌜ (r ≡ movedOf ((point (points (now (list .entry))) i) .x)) × (r < side) × (r ≡ getD (keysOf (now (list .entry))) i 0 % side) ⌝ }
+{
+    moved(list[2 * i])
+}
+
+pub fn row_at(list: &[i32], i: usize) -> u32
+    requires { ⌜ (i < length (points (now list))) × InRange (point (points (now list)) i) ⌝ }
+    ensures { λ r. ⌜ (r ≡ movedOf ((point (points (now (list .entry))) i) .y)) × (r < side) × (r ≡ getD (keysOf (now (list .entry))) i 0 / side) ⌝ }
+{
+    moved(list[2 * i + 1])
+}
+
 pub fn key_at(list: &[i32], i: usize) -> u32
     requires { ⌜ (i < length (points (now list))) × InRange (point (points (now list)) i) ⌝ }
     ensures { λ r. ⌜ (r ≡ packedOf (point (points (now (list .entry))) i)) × (r < cells) × (r ≡ getD (keysOf (now (list .entry))) i 0) ⌝ }

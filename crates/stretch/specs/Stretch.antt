@@ -36,6 +36,13 @@ pub record Slope (a b y : ℕ) : Type 0 where
   pub high : y ≤ b / side
   pub steep : a / side < b / side
 
+-- it goes so between two corners that are numbers in range, by their places
+pub record Way (corners : List ℤ) (low high y : ℕ) : Type 0 where
+  pub range : All InRange (points corners)
+  pub low-inside : low < length (keysOf corners)
+  pub high-inside : high < length (keysOf corners)
+  pub slope : Slope (getD (keysOf corners) low 0) (getD (keysOf corners) high 0) y
+
 -- the stretch has exactly the columns in which row y has a point of the hull of c
 pub record StretchOf (c : List Point) (y : ℕ) (s : Stretch) : Type 0 where
   pub rising : s .from ≤ s .to

@@ -2,9 +2,10 @@
 // The corners are read where they stand, as numbers.
 ghost use mathlib.Core.Path.{_≡_};
 ghost use lib.ListN.{length, getD};
-ghost use Prim.Native.Nat.{suc, _+_, _*_, _/_, _≤_, _<_};
+ghost use Prim.Native.Nat.{suc, _+_, _*_, _≤_, _<_};
+ghost use Rattle.packed.specs.Packed.{side};
 ghost use Rattle.packed.specs.Corners.{keysOf};
-ghost use Rattle.stretch.specs.Stretch.{Bounded, Slope, HasRow, firstRow, lastRow, Tall, Rises, RisesFrom, Falls, FallsFrom, unit, columnOf, Climbs, Only, FirstRises, OnRight, OnLeft, Crosses};
+ghost use Rattle.stretch.specs.Stretch.{Bounded, Way, HasRow, firstRow, lastRow, Tall, Rises, RisesFrom, Falls, FallsFrom, unit, columnOf, Climbs, Only, FirstRises, OnRight, OnLeft, Crosses};
 
 // Columns moved to start at 0, from `from` to below `to`.
 pub struct Stretch {
@@ -36,18 +37,21 @@ const UNIT: u64 = 4294967296;
 // How far the left side is moved: a column of which any part is left of the edge is not in the hull.
 const MOVED: u64 = 4294950912;
 
-// The edge between two corners, from a up to b, in row y.
-fn climb(place: usize, a: u32, b: u32, y: u32, moved: u64) -> Edge
-    requires { ⌜ Slope a b y × (moved < unit) ⌝ }
-    ensures { λ r. ⌜ (r .place ≡ place) × Climbs a b y moved r ⌝ }
+// The edge from the corner at place `low` up to that at `high`, in row y.
+fn climb(corners: &[i32], place: usize, low: usize, high: usize, y: u32, moved: u64) -> Edge
+    requires { ⌜ Way (now corners) low high y × (moved < unit) ⌝ }
+    ensures { λ r. ⌜ (r .place ≡ place) × Climbs (getD (keysOf (now (corners .entry))) low 0) (getD (keysOf (now (corners .entry))) high 0) y moved r ⌝ }
 {
-    let height = (b / SIDE - a / SIDE) as u64;
-    let growth = (b % SIDE) as u64 + 16384 * height - (a % SIDE) as u64;
+    let first = packed::row_at(corners, low);
+    let last = packed::row_at(corners, high);
+    let column = packed::column_at(corners, low) as u64;
+    let height = (last - first) as u64;
+    let growth = packed::column_at(corners, high) as u64 + 16384 * height - column;
     let slope = growth * UNIT / height + 1;
     Edge {
         place,
-        last: b / SIDE,
-        position: (a % SIDE) as u64 * UNIT + moved + slope * (y - a / SIDE) as u64,
+        last,
+        position: column * UNIT + moved + slope * (y - first) as u64,
         slope,
     }
 }
@@ -66,13 +70,14 @@ fn step(edge: Edge) -> Edge
 }
 
 // A corner of a hull that has one row.
-fn only(corner: u32) -> Edge
-    ensures { λ r. ⌜ Only corner r ⌝ }
+fn only(column: u32, row: u32) -> Edge
+    requires { ⌜ column < side ⌝ }
+    ensures { λ r. ⌜ Only (side * row + column) r ⌝ }
 {
     Edge {
         place: 0,
-        last: corner / SIDE,
-        position: (corner % SIDE) as u64 * UNIT,
+        last: row,
+        position: column as u64 * UNIT,
         slope: 0,
     }
 }
@@ -82,37 +87,28 @@ fn first_rising(corners: &[i32], peak: usize) -> usize
     requires { ⌜ HasRow (now corners) peak (firstRow (now corners)) × Tall (keysOf (now corners)) peak ⌝ }
     ensures { λ r. ⌜ FirstRises (keysOf (now (corners .entry))) peak r ⌝ }
 {
-    if packed::key_at(corners, 0) / SIDE == packed::key_at(corners, 1) / SIDE {
+    if packed::row_at(corners, 0) == packed::row_at(corners, 1) {
         return 1;
     }
     0
 }
 
-// Both sides in the first row.
-pub fn start(corners: &[i32], peak: usize) -> Crossing
-    requires { ⌜ HasRow (now corners) peak (firstRow (now corners)) ⌝ }
-    ensures { λ r. ⌜ Crosses (keysOf (now (corners .entry))) peak (firstRow (now (corners .entry))) r ⌝ }
+// Both sides in the first row, of a hull whose last row the caller has as well.
+pub fn start(corners: &[i32], peak: usize, y: u32, last: u32) -> Crossing
+    requires { ⌜ HasRow (now corners) peak (firstRow (now corners)) × (y ≡ firstRow (now corners)) × (last ≡ lastRow (now corners) peak) ⌝ }
+    ensures { λ r. ⌜ Crosses (keysOf (now (corners .entry))) peak y r ⌝ }
 {
-    let first = packed::key_at(corners, 0);
-    let last = packed::key_at(corners, peak);
-    let y = first / SIDE;
-    if y == last / SIDE {
+    if y == last {
         return Crossing {
-            left: only(first),
-            right: only(last),
+            left: only(packed::column_at(corners, 0), y),
+            right: only(packed::column_at(corners, peak), y),
         };
     }
     let rising = first_rising(corners, peak);
     let falling = corners.len() / 2 - 1;
     Crossing {
-        left: climb(falling, first, packed::key_at(corners, falling), y, MOVED),
-        right: climb(
-            rising,
-            packed::key_at(corners, rising),
-            packed::key_at(corners, rising + 1),
-            y,
-            0,
-        ),
+        left: climb(corners, falling, 0, falling, y, MOVED),
+        right: climb(corners, rising, rising, rising + 1, y, 0),
     }
 }
 
@@ -122,7 +118,7 @@ fn rising(corners: &[i32], peak: usize, y: u32, near: usize) -> usize
     ensures { λ r. ⌜ (r < peak) × Rises (keysOf (now (corners .entry))) y r ⌝ }
 {
     let mut i = near;
-    while packed::key_at(corners, i + 1) / SIDE < y {
+    while packed::row_at(corners, i + 1) < y {
         i += 1;
     }
     i
@@ -134,7 +130,7 @@ fn falling(corners: &[i32], peak: usize, y: u32, near: usize) -> usize
     ensures { λ r. ⌜ (peak ≤ r) × (suc r < length (keysOf (now (corners .entry)))) × Falls (keysOf (now (corners .entry))) y r (getD (keysOf (now (corners .entry))) (r + 1) 0) ⌝ }
 {
     let mut i = near;
-    while packed::key_at(corners, i) / SIDE < y {
+    while packed::row_at(corners, i) < y {
         i -= 1;
     }
     i
@@ -148,14 +144,8 @@ fn next_right(corners: &[i32], peak: usize, y: u32, edge: Edge) -> Edge
     if y < edge.last {
         return step(edge);
     }
-    let i = rising(corners, peak, y + 1, edge.place);
-    climb(
-        i,
-        packed::key_at(corners, i),
-        packed::key_at(corners, i + 1),
-        y + 1,
-        0,
-    )
+    let i = rising(corners, peak, y + 1, edge.place + 1);
+    climb(corners, i, i, i + 1, y + 1, 0)
 }
 
 // The left side.
@@ -167,13 +157,7 @@ fn next_left(corners: &[i32], peak: usize, y: u32, edge: Edge) -> Edge
         return step(edge);
     }
     let i = falling(corners, peak, y + 1, edge.place - 1);
-    climb(
-        i,
-        packed::key_at(corners, i + 1),
-        packed::key_at(corners, i),
-        y + 1,
-        MOVED,
-    )
+    climb(corners, i, i + 1, i, y + 1, MOVED)
 }
 
 // Both sides in the row after a corner's. A function of its own, and called twice, so that it is not inlined and what most rows take is.
@@ -187,9 +171,9 @@ fn past_corner(corners: &[i32], peak: usize, y: u32, crossing: Crossing) -> Cros
     }
 }
 
-// Both sides in the row after y, if the hull has that row: all rows together take as many steps as there are rows and corners.
-pub fn next(corners: &[i32], peak: usize, y: u32, crossing: Crossing) -> Crossing
-    requires { ⌜ HasRow (now corners) peak y × Crosses (keysOf (now corners)) peak y crossing ⌝ }
+// Both sides in the row after y, if that is not the last: all rows together take as many steps as there are rows and corners.
+pub fn next(corners: &[i32], peak: usize, last: u32, y: u32, crossing: Crossing) -> Crossing
+    requires { ⌜ HasRow (now corners) peak y × (last ≡ lastRow (now corners) peak) × Crosses (keysOf (now corners)) peak y crossing ⌝ }
     ensures { λ r. ⌜ (y < lastRow (now (corners .entry)) peak → Crosses (keysOf (now (corners .entry))) peak (y + 1) r) ⌝ }
 {
     if y < crossing.left.last {
@@ -201,7 +185,7 @@ pub fn next(corners: &[i32], peak: usize, y: u32, crossing: Crossing) -> Crossin
         }
         return past_corner(corners, peak, y, crossing);
     }
-    if packed::key_at(corners, peak) / SIDE <= y {
+    if last <= y {
         return crossing;
     }
     past_corner(corners, peak, y, crossing)

@@ -31,8 +31,8 @@ pub record Between (corners : List ℤ) (last y : ℕ) : Type 0 where
   pub upto : y ≤ last + 1
 
 module _ (corners : List ℤ) (peak : ℕ) where
-  pub between-first : 0 < length (keysOf corners) → Peak (keysOf corners) peak → Between corners (lastRow corners peak) (firstRow corners)
-  between-first l g = record { from = omega arith; upto = omega (arith, g .greatest 0 l) }
+  pub between-first : 0 < length (keysOf corners) → Peak (keysOf corners) peak → (y : ℕ) → y ≡ firstRow corners → Between corners (lastRow corners peak) y
+  between-first l g y e = record { from = omega (arith, e); upto = omega (arith, e, g .greatest 0 l) }
 
   -- one row more
   pub between-next : (y : ℕ) → Between corners (lastRow corners peak) y → y ≤ lastRow corners peak → Between corners (lastRow corners peak) (y + 1)
@@ -43,8 +43,8 @@ module _ {corners list : List ℤ} (w : Walked corners list) {peak : ℕ} (g : P
   rows : (p : Point) → Lacking corners list p → (placed (firstRow corners) ≤ℤ p .y) × (p .y <ℤ placed ((lastRow corners peak) + 1))
   rows p l = in-rows (w .outline) g p (l .within)
 
-  pub none-yet : Lists (Upto (Lacking corners list) (firstRow corners)) []
-  none-yet = upto-none (Lacking corners list) (firstRow corners) (λ p l. rows p l .0)
+  none-yet : (y : ℕ) → y ≡ firstRow corners → Lists (Upto (Lacking corners list) y) []
+  none-yet y e = upto-none (Lacking corners list) y (λ p l. subst (λ n. placed n ≤ℤ p .y) (sym e) (rows p l .0))
 
   module _ (y : ℕ) (b : Between corners (lastRow corners peak) y) where
     -- past the last row
@@ -63,18 +63,19 @@ pub record Written (corners list : List ℤ) (last y begin used : ℕ) (room₀ 
 
 module _ {corners list : List ℤ} (w : Walked corners list) {peak : ℕ} (g : Peak (keysOf corners) peak) where
   -- no point of the list is in a row before the first
-  pub leads-none : LeadsTo (points list) (placed (firstRow corners)) 0
-  leads-none = record {
+  leads-none : (y : ℕ) → y ≡ firstRow corners → LeadsTo (points list) (placed y) 0
+  leads-none y e = record {
     upto = omega arith;
     before = λ i u. nowhere i u;
-    stops = λ u. in-rows (w .outline) g (point (points list) 0) (all-place (InHull (Of (points corners))) (points list) (w .inside) 0 u) .0;
+    stops = λ u. let p = point (points list) 0 in
+        subst (λ n. placed n ≤ℤ p .y) (sym e) (in-rows (w .outline) g p (all-place (InHull (Of (points corners))) (points list) (w .inside) 0 u) .0);
   }
 
-  pub written-none : (room : List ℤ) → Written corners list (lastRow corners peak) (firstRow corners) 0 0 room room
-  written-none room = record {
-    between = between-first corners peak (some (w .outline) g) g;
-    leads = leads-none;
-    puts = ([], none-yet w g, refl, refl);
+  pub written-none : (room : List ℤ) (y : ℕ) → y ≡ firstRow corners → Written corners list (lastRow corners peak) y 0 0 room room
+  written-none room y e = record {
+    between = between-first corners peak (some (w .outline) g) g y e;
+    leads = leads-none y e;
+    puts = ([], none-yet w g y e, refl, refl);
   }
 
   module _ (room₀ : List ℤ) (t : Takes (Lacking corners list) room₀) (y begin used : ℕ) (room : List ℤ) (d : Written corners list (lastRow corners peak) y begin used room₀ room) where
@@ -130,11 +131,11 @@ pub record Searching (row : List ℤ) (s : Stretch) (y x : ℕ) : Type 0 where
   pub full : (n : ℕ) → s .from ≤ n → n < x → In (cell n y) (points row)
 
 module _ {corners list : List ℤ} (w : Walked corners list) {peak : ℕ} (g : Peak (keysOf corners) peak) where
-  pub searched-none : Searched corners list (lastRow corners peak) (firstRow corners) 0
-  searched-none = record {
-    between = between-first corners peak (some (w .outline) g) g;
-    leads = leads-none w g;
-    none = none-yet w g .every;
+  pub searched-none : (y : ℕ) → y ≡ firstRow corners → Searched corners list (lastRow corners peak) y 0
+  searched-none y e = record {
+    between = between-first corners peak (some (w .outline) g) g y e;
+    leads = leads-none w g y e;
+    none = none-yet w g y e .every;
   }
 
   module _ (y begin : ℕ) (d : Searched corners list (lastRow corners peak) y begin) where

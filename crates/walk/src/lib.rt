@@ -7,7 +7,7 @@ ghost use Rattle.packed.specs.Packed.{Tells, side};
 ghost use Rattle.packed.specs.Corners.{keysOf, Outline};
 ghost use Rattle.rows.specs.Row.{RunsTo};
 ghost use Rattle.stretch.specs.Stretch.{Peak};
-ghost use Rattle.walk.specs.Walk.{Walked, Lacking, FirstOf, Takes, Puts, columnAt, RowPoints, Gap, Across, InRow, Neighbour, FirstColumn};
+ghost use Rattle.walk.specs.Walk.{Walked, Lacking, FirstOf, Takes, Puts, RowPoints, Gap, Across, InRow, Neighbour, FirstColumn};
 use stretch::Stretch;
 
 const SIDE: u32 = 16384;
@@ -102,16 +102,17 @@ pub fn first(corners: &[i32], list: &[i32]) -> u32
         return NONE;
     }
     let peak = peak(corners);
-    let last = packed::key_at(corners, peak) / SIDE;
-    let mut crossing = stretch::start(corners, peak);
+    let first = packed::row_at(corners, 0);
+    let last = packed::row_at(corners, peak);
+    let mut crossing = stretch::start(corners, peak, first, last);
     let mut begin: usize = 0;
-    let mut y = packed::key_at(corners, 0) / SIDE;
+    let mut y = first;
     'rows: loop {
         if last < y {
             break 'rows NONE;
         }
         let columns = stretch::across(crossing);
-        crossing = stretch::next(corners, peak, y, crossing);
+        crossing = stretch::next(corners, peak, last, y, crossing);
         let end = end_of_row(list, packed::placed(y), begin);
         let row = &list[2 * begin..2 * end];
         let mut x = first_column(row, columns);
@@ -127,25 +128,17 @@ pub fn first(corners: &[i32], list: &[i32]) -> u32
     }
 }
 
-// The column of a row's point, moved to start at 0.
-fn column_at(row: &[i32], i: usize) -> u32
-    requires { ⌜ (i < length (points (now row))) × All InRange (points (now row)) ⌝ }
-    ensures { λ r. ⌜ (r ≡ columnAt (now (row .entry)) i) × (r < side) ⌝ }
-{
-    packed::moved(row[2 * i])
-}
-
 // A point of the row that is as many columns behind another as places, found by steps that double: there is no gap between them.
 fn neighbour(row: &[i32], i: usize) -> usize
     requires { ⌜ (i < length (points (now row))) × All InRange (points (now row)) ⌝ }
     ensures { λ r. ⌜ Neighbour (now (row .entry)) i r ⌝ }
 {
     let n = row.len() / 2;
-    let first = column_at(row, i) as usize;
+    let first = packed::column_at(row, i) as usize;
     let mut last: usize = i;
     let mut step: usize = 1;
     while step < n - i {
-        if column_at(row, i + step) as usize == first + step {
+        if packed::column_at(row, i + step) as usize == first + step {
             last = i + step;
             step = 2 * step;
         } else {
@@ -187,11 +180,11 @@ fn write_row(row: &[i32], stretch: Stretch, y: u32, room: &mut [i32]) -> usize
     while i < n {
         let gap = Stretch {
             from: x,
-            to: column_at(row, i),
+            to: packed::column_at(row, i),
         };
         used += fill(gap, y, &mut room[2 * used..]);
         let last = neighbour(row, i);
-        x = column_at(row, last) + 1;
+        x = packed::column_at(row, last) + 1;
         i = last + 1;
     }
     let rest = Stretch {
@@ -210,14 +203,15 @@ pub fn write(corners: &[i32], list: &[i32], room: &mut [i32]) -> usize
         return 0;
     }
     let peak = peak(corners);
-    let last = packed::key_at(corners, peak) / SIDE;
-    let mut crossing = stretch::start(corners, peak);
+    let first = packed::row_at(corners, 0);
+    let last = packed::row_at(corners, peak);
+    let mut crossing = stretch::start(corners, peak, first, last);
     let mut used: usize = 0;
     let mut begin: usize = 0;
-    let mut y = packed::key_at(corners, 0) / SIDE;
+    let mut y = first;
     while y <= last {
         let stretch = stretch::across(crossing);
-        crossing = stretch::next(corners, peak, y, crossing);
+        crossing = stretch::next(corners, peak, last, y, crossing);
         let end = end_of_row(list, packed::placed(y), begin);
         used += write_row(&list[2 * begin..2 * end], stretch, y, &mut room[2 * used..]);
         begin = end;

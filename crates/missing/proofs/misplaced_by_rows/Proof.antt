@@ -1,9 +1,9 @@
 -- `missing::misplaced_by_rows` meets its contract: a turn of the loop passes one row more. Assumes nothing.
 use Rattle.missing.proofs.misplaced_by_rows.Statement.{statement}
 use Rattle.missing.proofs.misplaced_by_rows.Tie as tie
-use Prim.Native.Nat.{ℕ, _<_, _≤_, _+_, _-_, _/_}
-use mathlib.Core.Path.{_≡_, sym, _∙_, ap, subst}
-use mathlib.Core.Bool.{true, false}
+use Prim.Native.Nat.{ℕ, _<_, _≤_, _+_, _-_}
+use mathlib.Core.Path.{_≡_, _∙_, subst}
+use mathlib.Core.Bool.{true}
 use mathlib.Core.List.{List}
 use native.Mathlib.Omega.{arith}
 use borrow.Author.Needs.{needs}
@@ -26,29 +26,28 @@ use Rattle.missing.proofs.Going.{passing-then}
 use Rattle.missing.proofs.Misplacing.{Looking, looking-none, one-row, looking-more, looking-all}
 
 abbrev Inv-loop : tie.InvT-loop
-Inv-loop corners peak missing n apart last crossing₀ begin₀ y₀ crossing begin y =
+Inv-loop corners peak missing n apart first last crossing₀ begin₀ y₀ crossing begin y =
     Looking corners missing (lastRow corners peak) y begin × (y ≤ lastRow corners peak → Crosses (keysOf corners) peak y crossing)
 
 abbrev μ-loop : tie.MeasureT-loop
-μ-loop corners peak missing n apart last crossing₀ begin₀ y₀ crossing begin y = last + 1 - y
+μ-loop corners peak missing n apart first last crossing₀ begin₀ y₀ crossing begin y = last + 1 - y
 
 all-apart-requires : tie.Need-all-apart-requires Inv-loop μ-loop
 all-apart-requires c κs = (c .pre .0, c .pre .2, c .pre .3)
 
-key-at-requires : tie.Need-key-at-requires Inv-loop μ-loop
-key-at-requires c κs = corner-readable (c .before .pre .0) _ (c .before .pre .1 .inside)
+row-at-requires : tie.Need-row-at-requires Inv-loop μ-loop
+row-at-requires c κs = let a = c .before in corner-readable (a .pre .0) 0 (some (a .pre .0) (a .pre .1))
+
+row-at-requires-2 : tie.Need-row-at-requires-2 Inv-loop μ-loop
+row-at-requires-2 c κs = let a = c .before .before in corner-readable (a .pre .0) _ (a .pre .1 .inside)
 
 start-requires : tie.Need-start-requires Inv-loop μ-loop
-start-requires c κs = let a = c .before .before in has-first-row (a .pre .0) (a .pre .1)
-
-key-at-requires-2 : tie.Need-key-at-requires-2 Inv-loop μ-loop
-key-at-requires-2 c κs = let a = c .before .before .before in corner-readable (a .pre .0) 0 (some (a .pre .0) (a .pre .1))
+start-requires c κs = let a = c .before .before .before in (has-first-row (a .pre .0) (a .pre .1), c .before .row-at .ensures .2, c .row-at2 .ensures .2)
 
 loop-holds : tie.Need-loop-holds Inv-loop μ-loop
-loop-holds c = let a = c .before .before .before .before in
-    let r = c .before .start .result in
-    subst (λ k. Inv-loop (now (a .args .corners)) (a .args .peak) (now (a .args .missing)) 0 false 0 r 0 0 r 0 (k / side)) (sym (c .key-at2 .ensures .2))
-    (looking-none (a .pre .0) (a .pre .1), λ _. c .before .start .ensures)
+loop-holds c = let k = c .before .before in
+    let a = k .before .before in
+    (looking-none (a .pre .0) (a .pre .1) _ (k .row-at .ensures .2), λ _. c .start .ensures)
 
 -- both lists; the last row is that of the last corner, and no row of the hull is past the range
 abbrev corners-of : tie.At-loop Inv-loop μ-loop → List ℤ
@@ -60,8 +59,8 @@ missing-of c = now (c .before .before .before .before .before .args .missing)
 abbrev last-of : tie.At-loop Inv-loop μ-loop → ℕ
 last-of c = lastRow (corners-of c) (c .before .before .before .before .before .args .peak)
 
-last-is : (c : tie.At-loop Inv-loop μ-loop) → c .before .before .before .key-at .result / side ≡ last-of c
-last-is c = ap (λ k. k / side) (c .before .before .before .key-at .ensures .2)
+last-is : (c : tie.At-loop Inv-loop μ-loop) → c .before .before .row-at2 .result ≡ last-of c
+last-is c = c .before .before .row-at2 .ensures .2
 
 few : (c : tie.At-loop Inv-loop μ-loop) → last-of c < side
 few c = let a = c .before .before .before .before .before in last-row (a .pre .0) (a .pre .1)
@@ -86,7 +85,7 @@ across-requires : tie.Need-across-requires Inv-loop μ-loop
 across-requires c κs = search needs
 
 next-requires : tie.Need-next-requires Inv-loop μ-loop
-next-requires c κs = let e = c .before in (is-row e, e .before .before .loop .inv .1 (row e))
+next-requires c κs = let e = c .before in (is-row e, last-is (e .before .before), e .before .before .loop .inv .1 (row e))
 
 -- its columns
 stretch : (c : tie.After-next Inv-loop μ-loop) → let l = c .before .before .before .before in StretchOf (points (corners-of l)) (l .loop .y) (c .before .across .result)
@@ -157,9 +156,9 @@ misplaced-by-rows-spec =
     Inv-loop
     μ-loop
     all-apart-requires
-    key-at-requires
+    row-at-requires
+    row-at-requires-2
     start-requires
-    key-at-requires-2
     loop-holds
     returns
     across-requires

@@ -17,12 +17,12 @@ abbrev μ-loop : tie.MeasureT-loop
 loop-holds : tie.Need-loop-holds Inv-loop μ-loop
 loop-holds c = c .pre .1
 
-key-at-requires : tie.Need-key-at-requires Inv-loop μ-loop
-key-at-requires c κs = corner-in-row (c .before .pre .0) (c .loop .i) (omega (arith, c .loop .inv .inside))
+row-at-requires : tie.Need-row-at-requires Inv-loop μ-loop
+row-at-requires c κs = corner-in-row (c .before .pre .0) (c .loop .i) (omega (arith, c .loop .inv .inside))
 
 past : (c : tie.Then1 Inv-loop μ-loop) → let l = c .before .before in l .before .args .peak < l .loop .i
 past c = let l = c .before .before in
-    falls-past _ _ _ (l .before .pre .0 .peaked) _ (l .loop .inv) (omega (arith, c .before .key-at .ensures .2, c .if1 .taken))
+    falls-past _ _ _ (l .before .pre .0 .peaked) _ (l .loop .inv) (omega (arith, c .before .row-at .ensures .2, c .if1 .taken))
 
 sub-i : tie.Need-sub-i Inv-loop μ-loop
 sub-i c = omega (arith, past c)
@@ -32,16 +32,16 @@ loop-less c = omega (arith, past c)
 
 loop-again : tie.Need-loop-again Inv-loop μ-loop
 loop-again c = let l = c .before .before in
-    falls-on _ _ _ (l .before .pre .0 .peaked) _ (l .loop .inv) (omega (arith, c .before .key-at .ensures .2, c .if1 .taken))
+    falls-on _ _ _ (l .before .pre .0 .peaked) _ (l .loop .inv) (omega (arith, c .before .row-at .ensures .2, c .if1 .taken))
 
 returns : tie.Need-returns Inv-loop μ-loop
 returns c = let l = c .before .before in (
   l .loop .inv .behind,
   l .loop .inv .inside,
-  falls-here _ _ _ (l .before .pre .0 .peaked) _ (l .loop .inv) (omega (arith, c .before .key-at .ensures .2, c .if1 .left)),
+  falls-here _ _ _ (l .before .pre .0 .peaked) _ (l .loop .inv) (omega (arith, c .before .row-at .ensures .2, c .if1 .left)),
 )
 
 pub falling-spec : {M : Type 1} → statement M
 falling-spec =
     tie.close
-    (tie.spec Inv-loop μ-loop loop-holds key-at-requires sub-i loop-less loop-again returns)
+    (tie.spec Inv-loop μ-loop loop-holds row-at-requires sub-i loop-less loop-again returns)

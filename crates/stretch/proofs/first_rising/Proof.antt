@@ -5,21 +5,21 @@ use native.Mathlib.Omega.{arith}
 use Rattle.stretch.proofs.Rowing.{corner-in-row}
 use Rattle.stretch.proofs.Sides.{two-corners, rising-first, rising-second}
 
-key-at-requires : tie.Need-key-at-requires
-key-at-requires c κs = corner-in-row (c .pre .0) 0 (omega (arith, two-corners _ _ _ (c .pre .0 .peaked) (c .pre .1)))
+row-at-requires : tie.Need-row-at-requires
+row-at-requires c κs = corner-in-row (c .pre .0) 0 (omega (arith, two-corners _ _ _ (c .pre .0 .peaked) (c .pre .1)))
 
-key-at-requires-2 : tie.Need-key-at-requires-2
-key-at-requires-2 c κs = let a = c .before in corner-in-row (a .pre .0) 1 (two-corners _ _ _ (a .pre .0 .peaked) (a .pre .1))
+row-at-requires-2 : tie.Need-row-at-requires-2
+row-at-requires-2 c κs = let a = c .before in corner-in-row (a .pre .0) 1 (two-corners _ _ _ (a .pre .0 .peaked) (a .pre .1))
 
 returns : tie.Need-returns
 returns c = let k = c .before .before in
     let a = k .before in
-    rising-second _ _ _ (a .pre .0 .peaked) (a .pre .1) (omega (arith, k .key-at .ensures .2, c .before .key-at2 .ensures .2, c .if1 .taken))
+    rising-second _ _ _ (a .pre .0 .peaked) (a .pre .1) (omega (arith, k .row-at .ensures .2, c .before .row-at2 .ensures .2, c .if1 .taken))
 
 returns-2 : tie.Need-returns-2
 returns-2 c = let k = c .before .before in
     let a = k .before in
-    rising-first _ _ _ (a .pre .0 .peaked) (a .pre .1) (λ e. c .if1 .left (omega (arith, e, k .key-at .ensures .2, c .before .key-at2 .ensures .2)))
+    rising-first _ _ _ (a .pre .0 .peaked) (a .pre .1) (λ e. c .if1 .left (omega (arith, e, k .row-at .ensures .2, c .before .row-at2 .ensures .2)))
 
 pub first-rising-spec : {M : Type 1} → statement M
-first-rising-spec = tie.close (tie.spec key-at-requires key-at-requires-2 returns returns-2)
+first-rising-spec = tie.close (tie.spec row-at-requires row-at-requires-2 returns returns-2)

@@ -3,39 +3,35 @@ use borrow.Author.Needs.{needs}
 use Rattle.stretch.proofs.next.Statement.{statement}
 use Rattle.stretch.proofs.next.Tie as tie
 use native.Mathlib.Omega.{arith}
-use Rattle.stretch.proofs.Rowing.{corner-in-row}
 use Rattle.stretch.proofs.Following.{left-below, left-small, left-on, right-small, right-on}
 
 step-requires : tie.Need-step-requires
 step-requires c κs = let t = c .before .before in
     let a = t .before .before in
-    left-small _ _ _ (a .pre .0 .peaked) _ (a .pre .1 .left) (t .if1 .taken)
+    left-small _ _ _ (a .pre .0 .peaked) _ (a .pre .2 .left) (t .if1 .taken)
 
 step-requires-2 : tie.Need-step-requires-2
-step-requires-2 c κs = let a = c .before .before .before .before .before in right-small _ _ _ (a .pre .0 .peaked) _ (a .pre .1 .right) (c .before .if2 .taken)
+step-requires-2 c κs = let a = c .before .before .before .before .before in right-small _ _ _ (a .pre .0 .peaked) _ (a .pre .2 .right) (c .before .if2 .taken)
 
 returns : tie.Need-returns
 returns c = let u = c .before .before in
     let t = u .before .before in
     let a = t .before .before in
     λ l. record {
-      left = left-on _ _ _ (a .pre .0 .peaked) _ (a .pre .1 .left) (t .if1 .taken) _ (c .before .step .ensures);
-      right = right-on _ _ _ (a .pre .0 .peaked) _ (a .pre .1 .right) (u .if2 .taken) _ (c .step2 .ensures);
+      left = left-on _ _ _ (a .pre .0 .peaked) _ (a .pre .2 .left) (t .if1 .taken) _ (c .before .step .ensures);
+      right = right-on _ _ _ (a .pre .0 .peaked) _ (a .pre .2 .right) (u .if2 .taken) _ (c .step2 .ensures);
     }
 
 past-corner-requires : tie.Need-past-corner-requires
 past-corner-requires c κs = let t = c .before .before in
     let a = t .before .before in
-    (a .pre .0, left-below _ _ _ (a .pre .0 .peaked) _ (a .pre .1 .left) (t .if1 .taken), a .pre .1)
+    (a .pre .0, left-below _ _ _ (a .pre .0 .peaked) _ (a .pre .2 .left) (t .if1 .taken), a .pre .2)
 
 returns-2 : tie.Need-returns-2
 returns-2 c = search needs
 
-key-at-requires : tie.Need-key-at-requires
-key-at-requires c κs = let a = c .before .before in corner-in-row (a .pre .0) _ (a .pre .0 .peaked .peaks .inside)
-
 returns-3 : tie.Need-returns-3
-returns-3 c = λ l. absurd (omega (arith, l, c .before .key-at .ensures .2, c .if3 .taken))
+returns-3 c = λ l. absurd (omega (arith, l, c .before .before .before .pre .1, c .if3 .taken))
 
 past-corner-requires-2 : tie.Need-past-corner-requires-2
 past-corner-requires-2 c κs = search needs
@@ -52,7 +48,6 @@ next-spec =
     returns
     past-corner-requires
     returns-2
-    key-at-requires
     returns-3
     past-corner-requires-2
     returns-4)

@@ -1,16 +1,14 @@
 -- `stretch::next_left` meets its contract: the same edge one row further, or the next one. Assumes nothing.
-use borrow.Author.Needs.{needs}
 use Rattle.stretch.proofs.next_left.Statement.{statement}
 use Rattle.stretch.proofs.next_left.Tie as tie
-use mathlib.Core.Path.{refl}
 use Prim.Native.Nat.{_+_, _<_}
 use native.Mathlib.Omega.{arith}
 use denote.Ref.{now}
 use Rattle.packed.specs.Packed.{side}
 use Rattle.packed.proofs.KeysOf.{keys-length}
 use Rattle.stretch.specs.Stretch.{HasRow}
-use Rattle.stretch.proofs.Rowing.{corner-in-row, row-small}
-use Rattle.stretch.proofs.Following.{climbs-as, row-after, left-small, left-on, falls-place, falls-from, left-of}
+use Rattle.stretch.proofs.Rowing.{row-small}
+use Rattle.stretch.proofs.Following.{row-after, falling-way, left-small, left-on, falls-place, falls-from, left-of}
 
 step-requires : tie.Need-step-requires
 step-requires c κs = let a = c .before .before in left-small _ _ _ (a .pre .0 .peaked) _ (a .pre .2) (c .if1 .taken)
@@ -38,28 +36,20 @@ falling-requires c κs = let e = c .before in
     let a = e .before .before in
     (following e, falls-from _ _ _ (a .pre .0 .peaked) _ (a .pre .2) (a .pre .1) (e .if1 .left))
 
-add-key-at : tie.Need-add-key-at
-add-key-at c = omega (arith, c .falling .ensures .1, keys-length (now (c .before .before .before .before .args .corners)))
-
-key-at-requires : tie.Need-key-at-requires
-key-at-requires c κs = corner-in-row (following (c .before .before)) _ (omega (arith, c .falling .ensures .1))
-
-key-at-requires-2 : tie.Need-key-at-requires-2
-key-at-requires-2 c κs = let f = c .before in corner-in-row (following (f .before .before)) _ (omega (arith, f .falling .ensures .1))
-
 add-climb : tie.Need-add-climb
-add-climb c = search needs
+add-climb c = omega (arith, c .falling .ensures .1, keys-length (now (c .before .before .before .before .args .corners)))
+
+add-climb-2 : tie.Need-add-climb-2
+add-climb-2 c = omega (arith, few (c .before .before))
 
 climb-requires : tie.Need-climb-requires
-climb-requires c κs = search needs
+climb-requires c κs = (falling-way (following (c .before .before)) _ (c .falling .ensures .1) (c .falling .ensures .2), omega arith)
 
 returns-2 : tie.Need-returns-2
-returns-2 c = let k = c .before .before in
-    let f = k .before in
+returns-2 c = let f = c .before in
     let e = f .before .before in
     let a = e .before .before in
-    left-of _ _ _ (following e .peaked) _ _ (f .falling .ensures .0) (f .falling .ensures .2) (omega (arith, a .pre .1, a .pre .0 .peaked .from-row)) _ (c .climb .ensures .0)
-    (climbs-as (k .key-at .ensures .2) (c .before .key-at2 .ensures .2) refl (c .climb .ensures .1))
+    left-of _ _ _ (following e .peaked) _ _ (f .falling .ensures .0) (f .falling .ensures .2) (omega (arith, a .pre .1, a .pre .0 .peaked .from-row)) _ (c .climb .ensures .0) (c .climb .ensures .1)
 
 pub next-left-spec : {M : Type 1} → statement M
 next-left-spec =
@@ -70,9 +60,7 @@ next-left-spec =
     add-falling
     sub-falling
     falling-requires
-    add-key-at
-    key-at-requires
-    key-at-requires-2
     add-climb
+    add-climb-2
     climb-requires
     returns-2)

@@ -23,11 +23,11 @@ loop-holds c = c .pre .1
 inside : (c : tie.At-loop Inv-loop μ-loop) → c .loop .i + 1 < length (keysOf (now (c .before .args .corners)))
 inside c = omega (arith, c .loop .inv .before, c .before .pre .0 .peaked .peaks .inside)
 
-add-key-at : tie.Need-add-key-at Inv-loop μ-loop
-add-key-at c = omega (arith, inside c, keys-length (now (c .before .args .corners)))
+add-row-at : tie.Need-add-row-at Inv-loop μ-loop
+add-row-at c = omega (arith, inside c, keys-length (now (c .before .args .corners)))
 
-key-at-requires : tie.Need-key-at-requires Inv-loop μ-loop
-key-at-requires c κs = corner-in-row (c .before .pre .0) (c .loop .i + 1) (inside c)
+row-at-requires : tie.Need-row-at-requires Inv-loop μ-loop
+row-at-requires c κs = corner-in-row (c .before .pre .0) (c .loop .i + 1) (inside c)
 
 add-i : tie.Need-add-i Inv-loop μ-loop
 add-i c = let l = c .before .before in omega (arith, inside l, keys-length (now (l .before .args .corners)))
@@ -37,11 +37,11 @@ loop-less c = omega (arith, c .before .before .loop .inv .before)
 
 loop-again : tie.Need-loop-again Inv-loop μ-loop
 loop-again c = let l = c .before .before in
-    rises-on _ _ _ (l .before .pre .0 .peaked) _ (l .loop .inv) (omega (arith, c .before .key-at .ensures .2, c .if1 .taken))
+    rises-on _ _ _ (l .before .pre .0 .peaked) _ (l .loop .inv) (omega (arith, c .before .row-at .ensures .2, c .if1 .taken))
 
 returns : tie.Need-returns Inv-loop μ-loop
 returns c = let l = c .before .before in
-    (l .loop .inv .before, rises-here _ _ _ (l .before .pre .0 .peaked) _ (l .loop .inv) (omega (arith, c .before .key-at .ensures .2, c .if1 .left)))
+    (l .loop .inv .before, rises-here _ _ _ (l .before .pre .0 .peaked) _ (l .loop .inv) (omega (arith, c .before .row-at .ensures .2, c .if1 .left)))
 
 pub rising-spec : {M : Type 1} → statement M
 rising-spec =
@@ -50,8 +50,8 @@ rising-spec =
     Inv-loop
     μ-loop
     loop-holds
-    add-key-at
-    key-at-requires
+    add-row-at
+    row-at-requires
     add-i
     loop-less
     loop-again

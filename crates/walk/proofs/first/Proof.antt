@@ -1,8 +1,8 @@
 -- `walk::first` meets its contract: a turn of the outer loop passes one row more, one of the inner loop one column more. Assumes nothing.
 use Rattle.walk.proofs.first.Statement.{statement}
 use Rattle.walk.proofs.first.Tie as tie
-use Prim.Native.Nat.{ℕ, _-_, _+_, _/_, _<_, _≤_, _*_}
-use mathlib.Core.Path.{_≡_, sym, _∙_, ap, subst}
+use Prim.Native.Nat.{ℕ, _-_, _+_, _<_, _≤_, _*_}
+use mathlib.Core.Path.{_≡_, sym, _∙_, subst}
 use native.Mathlib.Omega.{arith}
 use borrow.Author.Needs.{needs}
 use denote.Ref.{now}
@@ -24,17 +24,17 @@ use Rattle.walk.proofs.Walking.{some, has-row, has-first-row, last-row,
 use Rattle.walk.proofs.Loops.{Searched, Searching, searched-none, searched-all, searching-first, searching-more, searching-found, searching-all}
 
 abbrev Inv-loop : tie.InvT-loop
-Inv-loop corners list peak last crossing begin y columns end row x₀ x = Searching row columns y x
+Inv-loop corners list peak first last crossing begin y columns end row x₀ x = Searching row columns y x
 
 abbrev μ-loop : tie.MeasureT-loop
-μ-loop corners list peak last crossing begin y columns end row x₀ x = columns .to - x
+μ-loop corners list peak first last crossing begin y columns end row x₀ x = columns .to - x
 
 abbrev Inv-rows : tie.InvT-rows
-Inv-rows corners list peak last crossing₀ begin₀ y₀ crossing begin y =
+Inv-rows corners list peak first last crossing₀ begin₀ y₀ crossing begin y =
     Searched corners list (lastRow corners peak) y begin × (y ≤ lastRow corners peak → Crosses (keysOf corners) peak y crossing)
 
 abbrev μ-rows : tie.MeasureT-rows
-μ-rows corners list peak last crossing₀ begin₀ y₀ crossing begin y = last + 1 - y
+μ-rows corners list peak first last crossing₀ begin₀ y₀ crossing begin y = last + 1 - y
 
 returns : tie.Need-returns Inv-loop μ-loop Inv-rows μ-rows
 returns c = let l = now (c .before .args .corners) in
@@ -47,28 +47,26 @@ peak-requires c κs = (c .before .pre .outline, omega (arith, points-length (now
 walked : (c : tie.After-peak Inv-loop μ-loop Inv-rows μ-rows) → Walked (now (c .before .before .args .corners)) (now (c .before .before .args .list))
 walked c = c .before .before .pre
 
-key-at-requires : tie.Need-key-at-requires Inv-loop μ-loop Inv-rows μ-rows
-key-at-requires c κs = corner-readable (walked c .outline) _ (c .peak .ensures .inside)
+row-at-requires : tie.Need-row-at-requires Inv-loop μ-loop Inv-rows μ-rows
+row-at-requires c κs = corner-readable (walked c .outline) 0 (some (walked c .outline) (c .peak .ensures))
+
+row-at-requires-2 : tie.Need-row-at-requires-2 Inv-loop μ-loop Inv-rows μ-rows
+row-at-requires-2 c κs = corner-readable (walked (c .before) .outline) _ (c .before .peak .ensures .inside)
 
 start-requires : tie.Need-start-requires Inv-loop μ-loop Inv-rows μ-rows
-start-requires c κs = has-first-row (walked (c .before) .outline) (c .before .peak .ensures)
-
-key-at-requires-2 : tie.Need-key-at-requires-2 Inv-loop μ-loop Inv-rows μ-rows
-key-at-requires-2 c κs = let p = c .before .before in corner-readable (walked p .outline) 0 (some (walked p .outline) (p .peak .ensures))
+start-requires c κs = let p = c .before .before in (has-first-row (walked p .outline) (p .peak .ensures), c .before .row-at .ensures .2, c .row-at2 .ensures .2)
 
 rows-holds : tie.Need-rows-holds Inv-loop μ-loop Inv-rows μ-rows
-rows-holds c = let p = c .before .before .before in
-    let a = p .before .before .args in
-    let r = c .before .start .result in
-    subst (λ k. Inv-rows (now (a .corners)) (now (a .list)) (p .peak .result) 0 r 0 0 r 0 (k / side)) (sym (c .key-at2 .ensures .2))
-    (searched-none (walked p) (p .peak .ensures), λ _. c .before .start .ensures)
+rows-holds c = let k = c .before .before in
+    let p = k .before in
+    (searched-none (walked p) (p .peak .ensures) _ (k .row-at .ensures .2), λ _. c .start .ensures)
 
 -- the last row is that of the last corner, and no row of the hull is past the range
 abbrev last-of : tie.At-rows Inv-loop μ-loop Inv-rows μ-rows → ℕ
 last-of c = let p = c .before .before .before .before in lastRow (now (p .before .before .args .corners)) (p .peak .result)
 
-last-is : (c : tie.At-rows Inv-loop μ-loop Inv-rows μ-rows) → c .before .before .before .key-at .result / side ≡ last-of c
-last-is c = ap (λ k. k / side) (c .before .before .before .key-at .ensures .2)
+last-is : (c : tie.At-rows Inv-loop μ-loop Inv-rows μ-rows) → c .before .before .row-at2 .result ≡ last-of c
+last-is c = c .before .before .row-at2 .ensures .2
 
 few : (c : tie.At-rows Inv-loop μ-loop Inv-rows μ-rows) → last-of c < side
 few c = let p = c .before .before .before .before in last-row (walked p .outline) (p .peak .ensures)
@@ -86,7 +84,7 @@ across-requires : tie.Need-across-requires Inv-loop μ-loop Inv-rows μ-rows
 across-requires c κs = search needs
 
 next-requires : tie.Need-next-requires Inv-loop μ-loop Inv-rows μ-rows
-next-requires c κs = let e = c .before in (is-row e, e .before .rows .inv .1 (row e))
+next-requires c κs = let e = c .before in (is-row e, last-is (e .before), e .before .rows .inv .1 (row e))
 
 -- the columns of the row
 stretch : (c : tie.After-next Inv-loop μ-loop Inv-rows μ-rows) → let l = c .before .before .before in
@@ -232,9 +230,9 @@ first-spec =
     μ-rows
     returns
     peak-requires
-    key-at-requires
+    row-at-requires
+    row-at-requires-2
     start-requires
-    key-at-requires-2
     rows-holds
     across-requires
     next-requires

@@ -1,8 +1,8 @@
 -- `walk::write` meets its contract: a turn of the loop writes what one row more lacks. Assumes nothing.
 use Rattle.walk.proofs.write.Statement.{statement}
 use Rattle.walk.proofs.write.Tie as tie
-use Prim.Native.Nat.{ℕ, _-_, _+_, _/_, _<_, _≤_, _*_}
-use mathlib.Core.Path.{_≡_, refl, sym, _∙_, ap, subst}
+use Prim.Native.Nat.{ℕ, _-_, _+_, _<_, _≤_, _*_}
+use mathlib.Core.Path.{_≡_, refl, _∙_, subst}
 use mathlib.Core.List.{[]}
 use native.Mathlib.Omega.{arith}
 use borrow.Author.Needs.{needs}
@@ -23,11 +23,11 @@ use Rattle.walk.proofs.Walking.{some, has-row, has-first-row, last-row,
 use Rattle.walk.proofs.Loops.{Written, written-none, written-length, written-used, written-room, written-more, written-all}
 
 abbrev Inv-loop : tie.InvT-loop
-Inv-loop corners list room₀ peak last crossing₀ used₀ begin₀ y₀ room crossing used begin y =
+Inv-loop corners list room₀ peak first last crossing₀ used₀ begin₀ y₀ room crossing used begin y =
     Written corners list (lastRow corners peak) y begin used room₀ room × (y ≤ lastRow corners peak → Crosses (keysOf corners) peak y crossing)
 
 abbrev μ-loop : tie.MeasureT-loop
-μ-loop corners list room₀ peak last crossing₀ used₀ begin₀ y₀ room crossing used begin y = last + 1 - y
+μ-loop corners list room₀ peak first last crossing₀ used₀ begin₀ y₀ room crossing used begin y = last + 1 - y
 
 returns : tie.Need-returns Inv-loop μ-loop
 returns c = let a = c .before .args in
@@ -41,29 +41,26 @@ peak-requires c κs = (c .before .pre .0 .outline, omega (arith, points-length (
 walked : (c : tie.After-peak Inv-loop μ-loop) → Walked (now (c .before .before .args .corners)) (now (c .before .before .args .list))
 walked c = c .before .before .pre .0
 
-key-at-requires : tie.Need-key-at-requires Inv-loop μ-loop
-key-at-requires c κs = corner-readable (walked c .outline) _ (c .peak .ensures .inside)
+row-at-requires : tie.Need-row-at-requires Inv-loop μ-loop
+row-at-requires c κs = corner-readable (walked c .outline) 0 (some (walked c .outline) (c .peak .ensures))
+
+row-at-requires-2 : tie.Need-row-at-requires-2 Inv-loop μ-loop
+row-at-requires-2 c κs = corner-readable (walked (c .before) .outline) _ (c .before .peak .ensures .inside)
 
 start-requires : tie.Need-start-requires Inv-loop μ-loop
-start-requires c κs = has-first-row (walked (c .before) .outline) (c .before .peak .ensures)
-
-key-at-requires-2 : tie.Need-key-at-requires-2 Inv-loop μ-loop
-key-at-requires-2 c κs = let p = c .before .before in corner-readable (walked p .outline) 0 (some (walked p .outline) (p .peak .ensures))
+start-requires c κs = let p = c .before .before in (has-first-row (walked p .outline) (p .peak .ensures), c .before .row-at .ensures .2, c .row-at2 .ensures .2)
 
 loop-holds : tie.Need-loop-holds Inv-loop μ-loop
-loop-holds c = let p = c .before .before .before in
-    let a = p .before .before .args in
-    let r = c .before .start .result in
-    let room = now (a .room) in
-    subst (λ k. Inv-loop (now (a .corners)) (now (a .list)) room (p .peak .result) 0 r 0 0 0 room r 0 0 (k / side)) (sym (c .key-at2 .ensures .2))
-    (written-none (walked p) (p .peak .ensures) room, λ _. c .before .start .ensures)
+loop-holds c = let k = c .before .before in
+    let p = k .before in
+    (written-none (walked p) (p .peak .ensures) _ _ (k .row-at .ensures .2), λ _. c .start .ensures)
 
 -- the last row is that of the last corner, and no row of the hull is past the range
 abbrev last-of : tie.At-loop Inv-loop μ-loop → ℕ
 last-of c = let p = c .before .before .before .before in lastRow (now (p .before .before .args .corners)) (p .peak .result)
 
-last-is : (c : tie.At-loop Inv-loop μ-loop) → c .before .before .before .key-at .result / side ≡ last-of c
-last-is c = ap (λ k. k / side) (c .before .before .before .key-at .ensures .2)
+last-is : (c : tie.At-loop Inv-loop μ-loop) → c .before .before .row-at2 .result ≡ last-of c
+last-is c = c .before .before .row-at2 .ensures .2
 
 few : (c : tie.At-loop Inv-loop μ-loop) → last-of c < side
 few c = let p = c .before .before .before .before in last-row (walked p .outline) (p .peak .ensures)
@@ -81,7 +78,7 @@ across-requires : tie.Need-across-requires Inv-loop μ-loop
 across-requires c κs = search needs
 
 next-requires : tie.Need-next-requires Inv-loop μ-loop
-next-requires c κs = let e = c .before in (is-row e, e .before .loop .inv .1 (row e))
+next-requires c κs = let e = c .before in (is-row e, last-is (e .before), e .before .loop .inv .1 (row e))
 
 -- its columns
 stretch : (c : tie.After-next Inv-loop μ-loop) → let l = c .before .before .before in
@@ -212,9 +209,9 @@ write-spec =
     μ-loop
     returns
     peak-requires
-    key-at-requires
+    row-at-requires
+    row-at-requires-2
     start-requires
-    key-at-requires-2
     loop-holds
     across-requires
     next-requires
