@@ -3,12 +3,6 @@ use Prim.Native.Nat.{_-_, _<_}
 use mathlib.Core.Path.{_≡_}
 use native.Mathlib.Omega.{arith}
 use denote.Ref.{now}
-<<<<<<< HEAD
-use lib.ListN.{length, getD}
-use Rattle.packed.specs.Corners.{keysOf}
-use Rattle.packed.proofs.KeysOf.{keys-length, readable}
-use Rattle.range.proofs.Passing.{Passing, passing-none, passing-more}
-=======
 use lib.ListN.{length}
 use Rattle.lattice.specs.Point.{InRange, points, point}
 use Rattle.lattice.proofs.Numbers.{points-length}
@@ -16,7 +10,6 @@ use Rattle.lattice.proofs.Places.{all-place}
 use Rattle.packed.specs.Packed.{packed}
 use Rattle.packed.proofs.Tests.{tells-yes, tells-no}
 use Rattle.range.proofs.Passing.{Passing, passing-none, passing-more}
->>>>>>> numbers
 use Rattle.missing.proofs.Misplacing.{corner-here, no-corner}
 use Rattle.missing.proofs.is_corner.Statement.{statement}
 use Rattle.missing.proofs.is_corner.Tie as tie
