@@ -22,13 +22,30 @@ use Rattle.packed.proofs.RowOrder.{unpacked-in-range}
 use Rattle.packed.proofs.KeysOf.{keys-unpacked}
 use Rattle.pick.specs.Pick.{divisor, span, cross, around, area, border, twiceCount}
 use Rattle.pick.specs.declared.Edges.{Edges}
-use Rattle.pick.specs.Edge.{distance, steps, gain, loss, Small, Adds}
+use Rattle.pick.specs.Edge.{distance, steps, gain, loss, reached, Small, Adds}
 use Rattle.pick.proofs.Moved.{moved, twice-count-moved}
 use Rattle.pick.proofs.Pick.{pick, one-formula}
 
+-- ---- a corner's column and row, from the corner packed
+column-of : (x y : ℕ) → x < side → (side * y + x) % side ≡ x
+column-of x y h = omega arith
+
+row-of : (x y : ℕ) → x < side → (side * y + x) / side ≡ y
+row-of x y h = omega arith
+
+module _ (ax ay bx by : ℕ) (h : ax < side) (k : bx < side) where
+  pub steps-of : steps (side * ay + ax) (side * by + bx) ≡ divisor (distance ax bx) (distance ay by)
+  steps-of i = divisor (distance (column-of ax ay h i) (column-of bx by k i)) (distance (row-of ax ay h i) (row-of bx by k i))
+
+  pub gain-of : gain (side * ay + ax) (side * by + bx) ≡ ax * by + steps (side * ay + ax) (side * by + bx)
+  gain-of i = column-of ax ay h i * row-of bx by k i + steps (side * ay + ax) (side * by + bx)
+
+  pub loss-of : loss (side * ay + ax) (side * by + bx) ≡ bx * ay
+  loss-of i = column-of bx by k i * row-of ax ay h i
+
 -- ---- no product is large: a column times a row
-pub column-times-row : (a b : ℕ) → b < cells → a % side * (b / side) < cells
-column-times-row a b h = let c : a % side ≤ 16383 = omega arith in omega (arith, h, mul-le-mul-right (b / side) c)
+pub column-times-row : (x y : ℕ) → x < side → y < side → x * y < cells
+column-times-row x y h k = let c : x ≤ 16383 = omega arith in omega (arith, k, mul-le-mul-right y c)
 
 -- ---- an edge
 distance-is : (a b : ℕ) → natAbs (pos b -ℤ pos a) ≡ distance a b
@@ -166,33 +183,38 @@ no-corner f (a ∷ l) before (suc i) h = no-corner f l before i (omega arith)
 
 pub record Summed (corners : List ℕ) (s : Edges) (i : ℕ) : Type 0 where
   pub upto : i ≤ length corners
-  pub below : s .before < cells
-  pub gains : s .gained + sum gain (s .before) (drop i corners) ≡ 2 + total gain corners
-  pub losses : s .lost + sum loss (s .before) (drop i corners) ≡ total loss corners
+  pub column : s .column < side
+  pub row : s .row < side
+  pub gains : s .gained + sum gain (reached s) (drop i corners) ≡ 2 + total gain corners
+  pub losses : s .lost + sum loss (reached s) (drop i corners) ≡ total loss corners
   pub few-gained : s .gained ≤ 2 + i * 8589934592
   pub few-lost : s .lost ≤ i * 8589934592
 
 module _ {corners : List ℕ} (h : Cornered corners) (some : 0 < length corners) where
   -- the first edge comes from the last corner
-  pub summed-none : (j : ℕ) → j + 1 ≡ length corners → (last : ℕ) → last ≡ getD corners j 0 → (s : Edges) → s ≡ record { before = last; gained = 2; lost = 0 }
-      → Summed corners s 0
-  summed-none j d last e s f =
-      subst (λ r. Summed corners r 0) (sym (f ∙ ap (λ n. record { before = n; gained = 2; lost = 0 }) (e ∙ ap (λ n. getD corners n 0) from))) record {
-        upto = omega arith;
-        below = h .below (length corners - 1) (omega (arith, some));
-        gains = refl;
-        losses = omega arith;
-        few-gained = omega arith;
-        few-lost = omega arith;
-      }
+  pub summed-none : (j : ℕ) → j + 1 ≡ length corners → (column row : ℕ) → column ≡ getD corners j 0 % side → row ≡ getD corners j 0 / side
+      → (s : Edges) → s ≡ record { column = column; row = row; gained = 2; lost = 0 } → Summed corners s 0
+  summed-none j d column row e f s g = subst (λ r. Summed corners r 0) (sym g) record {
+    upto = omega arith;
+    column = omega (arith, e);
+    row = omega (arith, f, h .below j (omega (arith, d)));
+    gains = ap (λ n. 2 + sum gain n corners) last;
+    losses = omega (arith, ap (λ n. sum loss n corners) last);
+    few-gained = omega arith;
+    few-lost = omega arith;
+  }
     where
-      from : j ≡ length corners - 1
-      from = omega (arith, d)
+      last : side * row + column ≡ getD corners (length corners - 1) 0
+      last =
+          let k : side * row + column ≡ getD corners j 0 = omega (arith, e, f) in
+          let m : j ≡ length corners - 1 = omega (arith, d) in
+          k ∙ ap (λ n. getD corners n 0) m
 
   module _ {s : Edges} {i : ℕ} (g : Summed corners s i) where
     pub summed-small : Small s
     summed-small = record {
-      below = g .below;
+      column = g .column;
+      row = g .row;
       few-gained = omega (arith, g .few-gained, g .upto, few-corners corners h);
       few-lost = omega (arith, g .few-lost, g .upto, few-corners corners h);
     }
@@ -200,11 +222,12 @@ module _ {corners : List ℕ} (h : Cornered corners) (some : 0 < length corners)
     pub summed-more : i < length corners → (corner : ℕ) → corner ≡ getD corners i 0 → (r : Edges) → Adds s corner r → Summed corners r (i + 1)
     summed-more u corner e r a =
         let b : Adds s (getD corners i 0) r = subst (λ n. Adds s n r) e a in
-        let w : r .before ≡ getD corners i 0 = b .here in record {
+        let w : reached r ≡ getD corners i 0 = omega (arith, b .column, b .row) in record {
           upto = omega arith;
-          below = omega (arith, w, h .below i u);
-          gains = omega (arith, g .gains, b .gains, next-corner gain corners (s .before) i u, ap (λ n. sum gain n (drop (i + 1) corners)) w);
-          losses = omega (arith, g .losses, b .loses, next-corner loss corners (s .before) i u, ap (λ n. sum loss n (drop (i + 1) corners)) w);
+          column = omega (arith, b .column);
+          row = omega (arith, b .row, h .below i u);
+          gains = omega (arith, g .gains, b .gains, next-corner gain corners (reached s) i u, ap (λ n. sum gain n (drop (i + 1) corners)) w);
+          losses = omega (arith, g .losses, b .loses, next-corner loss corners (reached s) i u, ap (λ n. sum loss n (drop (i + 1) corners)) w);
           few-gained = omega (arith, g .few-gained, b .few-gained);
           few-lost = omega (arith, g .few-lost, b .few-lost);
         }
@@ -214,7 +237,7 @@ module _ {corners : List ℕ} (h : Cornered corners) (some : 0 < length corners)
       whole : (n : ℕ) × CountOf (HullOf corners) n × (s .gained ≡ 2 * n + s .lost)
       whole =
           let r = counted corners h some in
-          (r .0, r .1, omega (arith, g .gains, g .losses, r .2, no-corner gain corners (s .before) i u, no-corner loss corners (s .before) i u))
+          (r .0, r .1, omega (arith, g .gains, g .losses, r .2, no-corner gain corners (reached s) i u, no-corner loss corners (reached s) i u))
 
       pub summed-order : s .lost ≤ s .gained
       summed-order = omega (arith, whole .2)
