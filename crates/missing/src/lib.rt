@@ -233,7 +233,11 @@ fn misplaced_by_rows(corners: &[i32], peak: usize, missing: &[i32]) -> usize
             return n;
         }
         let stretch = stretch::across(crossing);
-        crossing = stretch::next(corners, peak, last, y, crossing);
+        if stretch::goes_on(crossing, y) {
+            crossing = stretch::further(crossing);
+        } else {
+            crossing = stretch::past_corner(corners, peak, last, y, crossing);
+        }
         let end = walk::end_of_row(missing, packed::placed(y), begin);
         if ends_misplaced(corners, stretch, missing, apart, begin, end) {
             return misplaced_in_row(corners, stretch, missing, apart, begin, end);

@@ -1,5 +1,5 @@
 -- Both sides of a hull from its first row to its last, and what lies between them. Assumes nothing.
-use mathlib.Core.Path.{_≡_, sym, ap, subst}
+use mathlib.Core.Path.{_≡_, refl, sym, ap, subst}
 use mathlib.Core.List.{List, map}
 use Prim.Native.Nat.{ℕ, suc, _+_, _-_, _*_, _/_, _%_, _≤_, _<_}
 use native.Mathlib.Numerals.{add-one}
@@ -12,16 +12,12 @@ use Rattle.lattice.proofs.Places.{lt-or-le}
 use Rattle.packed.specs.Packed.{side, unpacked}
 use Rattle.packed.specs.Corners.{keysOf}
 use Rattle.packed.proofs.KeysOf.{keys-unpacked}
-use Rattle.stretch.specs.Stretch.{Bounded, Slope, Way, StretchOf, Peaked, HasRow, lastRow, Tall, Rises, Falls, RisesFrom, FallsFrom, unit, moved, columnOf, Climbs, Only, Rising, Falling, OnRight, OnLeft, Crosses}
+use Rattle.stretch.specs.Stretch.{Bounded, Slope, Way, StretchOf, Peaked, HasRow, lastRow, Tall, Rises, Falls, RisesFrom, FallsFrom, unit, moved, columnOf, Climbs, Only, Rising, Falling, OnRight, OnLeft, Crosses, stepped, GoesOn}
 use Rattle.stretch.specs.declared.Stretch.{Stretch}
 use Rattle.stretch.specs.declared.Edge.{Edge}
 use Rattle.stretch.specs.declared.Crossing.{Crossing}
 use Rattle.stretch.proofs.Climbing.{step-small, climbs-on, right-column, left-column}
 use Rattle.stretch.proofs.Sides.{after-below, rises-on, flat, crossed}
-
--- the edge one row further
-abbrev pub stepped : Edge → Edge
-stepped e = record { place = e .place; last = e .last; position = e .position + e .slope; slope = e .slope }
 
 module _ (corners : List ℕ) (peak y : ℕ) (h : Peaked corners peak y) where
   abbrev first-row : ℕ
@@ -183,6 +179,17 @@ module _ (corners : List ℕ) (peak y : ℕ) (h : Peaked corners peak y) where
 module _ {corners : List ℤ} {peak y : ℕ} (h : HasRow corners peak y) where
   pub row-after : y < lastRow corners peak → HasRow corners peak (y + 1)
   row-after l = record { range = h .range; peaked = next-row (keysOf corners) peak y (h .peaked) l }
+
+  -- both edges go on
+  module _ (c : Crossing) (k : Crosses (keysOf corners) peak y c) (g : GoesOn c y) where
+    pub both-small : (c .left .position + c .left .slope < unit * unit) × (c .right .position + c .right .slope < unit * unit)
+    both-small = (left-small (keysOf corners) peak y (h .peaked) (c .left) (k .left) (g .0), right-small (keysOf corners) peak y (h .peaked) (c .right) (k .right) (g .1))
+
+    pub both-on : (r : Crossing) → r ≡ record { left = stepped (c .left); right = stepped (c .right) } → Crosses (keysOf corners) peak (y + 1) r
+    both-on r e = subst (Crosses (keysOf corners) peak (y + 1)) (sym e) (record {
+      left = left-on (keysOf corners) peak y (h .peaked) (c .left) (k .left) (g .0) (stepped (c .left)) refl;
+      right = right-on (keysOf corners) peak y (h .peaked) (c .right) (k .right) (g .1) (stepped (c .right)) refl;
+    })
 
   -- the ways between corners
   pub rising-way : (i : ℕ) → Rises (keysOf corners) y i → Way corners i (i + 1) y

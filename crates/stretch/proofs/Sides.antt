@@ -169,6 +169,12 @@ module _ (corners : List ℕ) (peak y : ℕ) (h : Peaked corners peak y) where
       steep = omega (arith, r .low, u);
     }
 
+    pub rises-tall : RisesFrom corners peak y i → Tall corners peak
+    rises-tall r = omega (arith, r .low, h .to-row, first-row i (omega (arith, r .before, h .peaks .inside)))
+
+    pub falls-tall : FallsFrom corners peak y i → Tall corners peak
+    falls-tall r = omega (arith, r .low, h .to-row, first-row (i + 1) (omega (arith, r .inside)))
+
     pub falls-past : FallsFrom corners peak y i → rowAt i < y → peak < i
     falls-past r u =
         either (lt-or-le peak i) (λ l. l) (λ l. let e : peak ≡ i = omega (arith, l, r .behind) in absurd (omega (arith, u, h .to-row, ap rowAt e)))

@@ -167,3 +167,10 @@ pub record OnLeft (corners : List ℕ) (peak y : ℕ) (e : Edge) : Type 0 where
 pub record Crosses (corners : List ℕ) (peak y : ℕ) (c : Crossing) : Type 0 where
   pub left : OnLeft corners peak y (c .left)
   pub right : OnRight corners peak y (c .right)
+
+-- the edge one row further; whether both cross the row after y as well
+abbrev pub stepped : Edge → Edge
+stepped e = record { place = e .place; last = e .last; position = e .position + e .slope; slope = e .slope }
+
+abbrev pub GoesOn : Crossing → ℕ → Type 0
+GoesOn c y = (y < c .left .last) × (y < c .right .last)

@@ -3,9 +3,9 @@
 ghost use mathlib.Core.Path.{_≡_};
 ghost use lib.ListN.{length, getD};
 ghost use Prim.Native.Nat.{suc, _+_, _*_, _≤_, _<_};
-ghost use Rattle.packed.specs.Packed.{side};
+ghost use Rattle.packed.specs.Packed.{Tells, side};
 ghost use Rattle.packed.specs.Corners.{keysOf};
-ghost use Rattle.stretch.specs.Stretch.{Bounded, Way, HasRow, firstRow, lastRow, Tall, Rises, RisesFrom, Falls, FallsFrom, unit, columnOf, Climbs, Only, FirstRises, OnRight, OnLeft, Crosses};
+ghost use Rattle.stretch.specs.Stretch.{Bounded, Way, HasRow, firstRow, lastRow, Tall, Rises, RisesFrom, Falls, FallsFrom, unit, columnOf, Climbs, Only, FirstRises, OnRight, OnLeft, Crosses, stepped, GoesOn};
 
 // Columns moved to start at 0, from `from` to below `to`.
 pub struct Stretch {
@@ -59,7 +59,7 @@ fn climb(corners: &[i32], place: usize, low: usize, high: usize, y: u32, moved: 
 // The same edge one row further.
 fn step(edge: Edge) -> Edge
     requires { ⌜ edge .position + edge .slope < unit * unit ⌝ }
-    ensures { λ r. ⌜ r ≡ record { place = edge .place; last = edge .last; position = edge .position + edge .slope; slope = edge .slope } ⌝ }
+    ensures { λ r. ⌜ r ≡ stepped edge ⌝ }
 {
     Edge {
         place: edge.place,
@@ -160,35 +160,41 @@ fn next_left(corners: &[i32], peak: usize, y: u32, edge: Edge) -> Edge
     climb(corners, i, i + 1, i, y + 1, MOVED)
 }
 
-// Both sides in the row after a corner's. A function of its own, and called twice, so that it is not inlined and what most rows take is.
-fn past_corner(corners: &[i32], peak: usize, y: u32, crossing: Crossing) -> Crossing
-    requires { ⌜ HasRow (now corners) peak y × (y < lastRow (now corners) peak) × Crosses (keysOf (now corners)) peak y crossing ⌝ }
-    ensures { λ r. ⌜ Crosses (keysOf (now (corners .entry))) peak (y + 1) r ⌝ }
+// Whether both edges cross the row after y as well.
+pub fn goes_on(crossing: Crossing, y: u32) -> bool
+    ensures { λ r. ⌜ Tells r (GoesOn crossing y) ⌝ }
+{
+    if y < crossing.left.last {
+        if y < crossing.right.last {
+            return true;
+        }
+    }
+    false
+}
+
+// Both edges one row further. What most rows take: so the callers test whether it goes on, and what happens at a corner stands apart.
+pub fn further(crossing: Crossing) -> Crossing
+    requires { ⌜ (crossing .left .position + crossing .left .slope < unit * unit) × (crossing .right .position + crossing .right .slope < unit * unit) ⌝ }
+    ensures { λ r. ⌜ r ≡ record { left = stepped (crossing .left); right = stepped (crossing .right) } ⌝ }
 {
     Crossing {
-        left: next_left(corners, peak, y, crossing.left),
-        right: next_right(corners, peak, y, crossing.right),
+        left: step(crossing.left),
+        right: step(crossing.right),
     }
 }
 
 // Both sides in the row after y, if that is not the last: all rows together take as many steps as there are rows and corners.
-pub fn next(corners: &[i32], peak: usize, last: u32, y: u32, crossing: Crossing) -> Crossing
+pub fn past_corner(corners: &[i32], peak: usize, last: u32, y: u32, crossing: Crossing) -> Crossing
     requires { ⌜ HasRow (now corners) peak y × (last ≡ lastRow (now corners) peak) × Crosses (keysOf (now corners)) peak y crossing ⌝ }
     ensures { λ r. ⌜ (y < lastRow (now (corners .entry)) peak → Crosses (keysOf (now (corners .entry))) peak (y + 1) r) ⌝ }
 {
-    if y < crossing.left.last {
-        if y < crossing.right.last {
-            return Crossing {
-                left: step(crossing.left),
-                right: step(crossing.right),
-            };
-        }
-        return past_corner(corners, peak, y, crossing);
-    }
     if last <= y {
         return crossing;
     }
-    past_corner(corners, peak, y, crossing)
+    Crossing {
+        left: next_left(corners, peak, y, crossing.left),
+        right: next_right(corners, peak, y, crossing.right),
+    }
 }
 
 // The column that an edge crosses.

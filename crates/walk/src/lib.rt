@@ -112,7 +112,11 @@ pub fn first(corners: &[i32], list: &[i32]) -> u32
             break 'rows NONE;
         }
         let columns = stretch::across(crossing);
-        crossing = stretch::next(corners, peak, last, y, crossing);
+        if stretch::goes_on(crossing, y) {
+            crossing = stretch::further(crossing);
+        } else {
+            crossing = stretch::past_corner(corners, peak, last, y, crossing);
+        }
         let end = end_of_row(list, packed::placed(y), begin);
         let row = &list[2 * begin..2 * end];
         let mut x = first_column(row, columns);
@@ -211,7 +215,11 @@ pub fn write(corners: &[i32], list: &[i32], room: &mut [i32]) -> usize
     let mut y = first;
     while y <= last {
         let stretch = stretch::across(crossing);
-        crossing = stretch::next(corners, peak, last, y, crossing);
+        if stretch::goes_on(crossing, y) {
+            crossing = stretch::further(crossing);
+        } else {
+            crossing = stretch::past_corner(corners, peak, last, y, crossing);
+        }
         let end = end_of_row(list, packed::placed(y), begin);
         used += write_row(&list[2 * begin..2 * end], stretch, y, &mut room[2 * used..]);
         begin = end;

@@ -2,7 +2,8 @@
 use Rattle.missing.proofs.misplaced_by_rows.Statement.{statement}
 use Rattle.missing.proofs.misplaced_by_rows.Tie as tie
 use Prim.Native.Nat.{ℕ, _<_, _≤_, _+_, _-_}
-use mathlib.Core.Path.{_≡_, _∙_, subst}
+use mathlib.Core.Path.{_≡_, sym, _∙_, subst}
+use mathlib.Core.Logic.{⊎-elim}
 use mathlib.Core.Bool.{true}
 use mathlib.Core.List.{List}
 use native.Mathlib.Omega.{arith}
@@ -19,7 +20,7 @@ use Rattle.packed.proofs.KeysOf.{corner-readable}
 use Rattle.rows.specs.Row.{RunsTo}
 use Rattle.range.proofs.Passing.{passing-all}
 use Rattle.stretch.specs.Stretch.{StretchOf, HasRow, lastRow, Crosses}
-use Rattle.stretch.proofs.Following.{columns-between}
+use Rattle.stretch.proofs.Following.{columns-between, both-small, both-on}
 use Rattle.walk.proofs.Walking.{some, has-row, has-first-row, last-row}
 use Rattle.missing.specs.Missing.{MisplacedAt, Apart, InOneRow}
 use Rattle.missing.proofs.Going.{passing-then}
@@ -84,64 +85,85 @@ is-row c = let l = c .before .before in
 across-requires : tie.Need-across-requires Inv-loop μ-loop
 across-requires c κs = search needs
 
-next-requires : tie.Need-next-requires Inv-loop μ-loop
-next-requires c κs = let e = c .before in (is-row e, last-is (e .before .before), e .before .before .loop .inv .1 (row e))
+goes-on-requires : tie.Need-goes-on-requires Inv-loop μ-loop
+goes-on-requires c κs = search needs
+
+-- the sides of the hull in it
+crosses : (c : tie.Else1 Inv-loop μ-loop) → let l = c .before .before in
+    Crosses (keysOf (corners-of l)) (l .before .before .before .before .before .args .peak) (l .loop .y) (l .loop .crossing)
+crosses c = c .before .before .loop .inv .1 (row c)
+
+further-requires : tie.Need-further-requires Inv-loop μ-loop
+further-requires c κs = let g = c .before in
+    let e = g .before .before in
+    both-small (is-row e) _ (crosses e) (tells-yes (c .if2 .taken) (g .goes-on .ensures))
+
+past-corner-requires : tie.Need-past-corner-requires Inv-loop μ-loop
+past-corner-requires c κs = let e = c .before .before .before in (is-row e, last-is (e .before .before), crosses e)
+
+-- the sides in the next row, if there is one
+sides : (c : tie.Joined2 Inv-loop μ-loop) → let l = c .before .before .before .before .before in
+    l .loop .y < last-of l → Crosses (keysOf (corners-of l)) (l .before .before .before .before .before .args .peak) (l .loop .y + 1) (c .if2 .crossing)
+sides c u = let e = c .before .before .before in
+    ⊎-elim
+    (λ w. subst (Crosses _ _ _) (sym (w .2)) (both-on (is-row e) _ (crosses e) (tells-yes (w .0 .taken) (c .before .goes-on .ensures)) _ (w .1 .ensures)))
+    (λ w. subst (Crosses _ _ _) (sym (w .2)) (w .1 .ensures u)) (c .if2 .came)
 
 -- its columns
-stretch : (c : tie.After-next Inv-loop μ-loop) → let l = c .before .before .before .before in StretchOf (points (corners-of l)) (l .loop .y) (c .before .across .result)
-stretch c = let e = c .before .before in columns-between (is-row e) _ (e .before .before .loop .inv .1 (row e)) _ (c .before .across .ensures)
+stretch : (c : tie.After-across Inv-loop μ-loop) → let l = c .before .before .before in StretchOf (points (corners-of l)) (l .loop .y) (c .across .result)
+stretch c = columns-between (is-row (c .before)) _ (crosses (c .before)) _ (c .across .ensures)
 
 placed-requires : tie.Need-placed-requires Inv-loop μ-loop
-placed-requires c κs = let e = c .before .before in omega (arith, few (e .before .before), row e)
+placed-requires c κs = let e = c .before .before .before in omega (arith, few (e .before .before), row e)
 
 end-of-row-requires : tie.Need-end-of-row-requires Inv-loop μ-loop
-end-of-row-requires c κs = let l = c .before .before .before .before .before in
+end-of-row-requires c κs = let l = c .before .before .before .before .before .before in
     (l .before .before .before .before .before .pre .3, l .loop .inv .0 .passing .upto)
 
 -- the points of the row
-runs : (c : tie.After-end-of-row Inv-loop μ-loop) → let l = c .before .before .before .before .before .before in
+runs : (c : tie.After-end-of-row Inv-loop μ-loop) → let l = c .before .before .before .before .before .before .before in
     RunsTo (points (missing-of l)) (placed (l .loop .y)) (l .loop .begin) (c .end-of-row .result)
-runs c = let l = c .before .before .before .before .before .before in
+runs c = let l = c .before .before .before .before .before .before .before in
     let p = c .before .placed in
     subst (λ y. RunsTo (points (missing-of l)) y (l .loop .begin) (c .end-of-row .result)) (read-back (p .result) (record { sfits = p .ok }) ∙ p .ensures) (c .end-of-row .ensures)
 
-in-row : (c : tie.After-end-of-row Inv-loop μ-loop) → let o = c .before .before .before in
+in-row : (c : tie.After-end-of-row Inv-loop μ-loop) → let o = c .before .before .before .before in
     let l = o .before .before .before in
     InOneRow (corners-of l) (o .across .result) (points (missing-of l)) (l .loop .begin) (c .end-of-row .result)
-in-row c = let l = c .before .before .before .before .before .before in
+in-row c = let l = c .before .before .before .before .before .before .before in
     let a = l .before .before .before .before .before in
-    one-row (a .pre .0) (a .pre .1) _ _ (l .loop .inv .0) (a .pre .3) (a .pre .2) _ (runs c) _ (stretch (c .before .before))
+    one-row (a .pre .0) (a .pre .1) _ _ (l .loop .inv .0) (a .pre .3) (a .pre .2) _ (runs c) _ (stretch (c .before .before .before .before))
 
 -- what is known of corners and missing points
-known : (c : tie.After-end-of-row Inv-loop μ-loop) → let l = c .before .before .before .before .before .before in
+known : (c : tie.After-end-of-row Inv-loop μ-loop) → let l = c .before .before .before .before .before .before .before in
     l .before .before .before .before .all-apart .result ≡ true → Apart (corners-of l) (missing-of l)
-known c = c .before .before .before .before .before .before .before .before .before .before .all-apart .ensures
+known c = c .before .before .before .before .before .before .before .before .before .before .before .all-apart .ensures
 
 ends-misplaced-requires : tie.Need-ends-misplaced-requires Inv-loop μ-loop
 ends-misplaced-requires c κs = (in-row c, known c)
 
 misplaced-in-row-requires : tie.Need-misplaced-in-row-requires Inv-loop μ-loop
-misplaced-in-row-requires c κs = let e = c .before .before in (in-row e, known e, tells-yes (c .if2 .taken) (c .before .ends-misplaced .ensures))
+misplaced-in-row-requires c κs = let e = c .before .before in (in-row e, known e, tells-yes (c .if3 .taken) (c .before .ends-misplaced .ensures))
 
 returns-2 : tie.Need-returns-2 Inv-loop μ-loop
-returns-2 c = let l = c .before .before .before .before .before .before .before .before .before in
+returns-2 c = let l = c .before .before .before .before .before .before .before .before .before .before in
     let f = c .misplaced-in-row .ensures in
     passing-then (length (points (missing-of l))) (MisplacedAt (corners-of l) (missing-of l)) _ (l .loop .inv .0 .passing) _ (f .here .0) f
 
 add-y : tie.Need-add-y Inv-loop μ-loop
-add-y c = let e = c .before .before .before .before .before .before in omega (arith, few (e .before .before), row e)
+add-y c = let e = c .before .before .before .before .before .before .before in omega (arith, few (e .before .before), row e)
 
 loop-less : tie.Need-loop-less Inv-loop μ-loop
-loop-less c = omega (arith, c .before .before .before .before .before .before .before .loop-test .taken)
+loop-less c = omega (arith, c .before .before .before .before .before .before .before .before .loop-test .taken)
 
 loop-again : tie.Need-loop-again Inv-loop μ-loop
 loop-again c = let m = c .before in
     let e = m .before in
-    let o = e .before .before .before .before in
+    let o = e .before .before .before .before .before in
     let l = o .before .before in
     let a = l .before .before .before .before .before in (
-      looking-more (a .pre .0) (a .pre .1) _ _ (l .loop .inv .0) (a .pre .3) (a .pre .2) _ (runs e) _ (stretch (e .before .before)) (row o) (tells-no (c .if2 .left) (m .ends-misplaced .ensures)),
-      λ u. e .before .before .next .ensures (omega (arith, u)),
+      looking-more (a .pre .0) (a .pre .1) _ _ (l .loop .inv .0) (a .pre .3) (a .pre .2) _ (runs e) _ (stretch (e .before .before .before .before)) (row o) (tells-no (c .if3 .left) (m .ends-misplaced .ensures)),
+      λ u. sides (e .before .before) (omega (arith, u)),
     )
 
 returns-3 : tie.Need-returns-3 Inv-loop μ-loop
@@ -162,7 +184,9 @@ misplaced-by-rows-spec =
     loop-holds
     returns
     across-requires
-    next-requires
+    goes-on-requires
+    further-requires
+    past-corner-requires
     placed-requires
     end-of-row-requires
     ends-misplaced-requires

@@ -2,7 +2,8 @@
 use Rattle.walk.proofs.write.Statement.{statement}
 use Rattle.walk.proofs.write.Tie as tie
 use Prim.Native.Nat.{ℕ, _-_, _+_, _<_, _≤_, _*_}
-use mathlib.Core.Path.{_≡_, refl, _∙_, subst}
+use mathlib.Core.Path.{_≡_, refl, sym, _∙_, subst}
+use mathlib.Core.Logic.{⊎-elim}
 use mathlib.Core.List.{[]}
 use native.Mathlib.Omega.{arith}
 use borrow.Author.Needs.{needs}
@@ -12,12 +13,12 @@ use Rattle.lattice.specs.Point.{points}
 use Rattle.lattice.proofs.Numbers.{points-length}
 use Rattle.packed.specs.Packed.{side, placed}
 use Rattle.packed.specs.Corners.{keysOf}
-use Rattle.packed.proofs.Tests.{read-back}
+use Rattle.packed.proofs.Tests.{read-back, tells-yes}
 use Rattle.packed.proofs.KeysOf.{corner-readable}
 use Rattle.rows.specs.Row.{Holds, RunsTo}
 use Rattle.rows.proofs.RowLaws.{ends-hold}
 use Rattle.stretch.specs.Stretch.{StretchOf, HasRow, lastRow, Crosses}
-use Rattle.stretch.proofs.Following.{columns-between}
+use Rattle.stretch.proofs.Following.{columns-between, both-small, both-on}
 use Rattle.walk.specs.Walk.{Walked, Lacking}
 use Rattle.walk.proofs.Walking.{some, has-row, has-first-row, last-row, nothing, nothing-listed, row-is}
 use Rattle.walk.proofs.Loops.{Written, written-none, written-length, written-used, written-room, written-more, written-all}
@@ -77,33 +78,55 @@ is-row c = let p = c .before .before .before .before .before in
 across-requires : tie.Need-across-requires Inv-loop μ-loop
 across-requires c κs = search needs
 
-next-requires : tie.Need-next-requires Inv-loop μ-loop
-next-requires c κs = let e = c .before in (is-row e, last-is (e .before), e .before .loop .inv .1 (row e))
+goes-on-requires : tie.Need-goes-on-requires Inv-loop μ-loop
+goes-on-requires c κs = search needs
+
+-- the sides of the hull in it
+crosses : (c : tie.In-loop Inv-loop μ-loop) → let p = c .before .before .before .before .before in
+    Crosses (keysOf (now (p .before .before .args .corners))) (p .peak .result) (c .before .loop .y) (c .before .loop .crossing)
+crosses c = c .before .loop .inv .1 (row c)
+
+further-requires : tie.Need-further-requires Inv-loop μ-loop
+further-requires c κs = let g = c .before in
+    let e = g .before .before in
+    both-small (is-row e) _ (crosses e) (tells-yes (c .if2 .taken) (g .goes-on .ensures))
+
+past-corner-requires : tie.Need-past-corner-requires Inv-loop μ-loop
+past-corner-requires c κs = let e = c .before .before .before in (is-row e, last-is (e .before), crosses e)
+
+-- the sides in the next row, if there is one
+sides : (c : tie.Joined2 Inv-loop μ-loop) → let l = c .before .before .before .before in
+    let p = l .before .before .before .before in
+    l .loop .y < last-of l → Crosses (keysOf (now (p .before .before .args .corners))) (p .peak .result) (l .loop .y + 1) (c .if2 .crossing)
+sides c u = let e = c .before .before .before in
+    ⊎-elim
+    (λ w. subst (Crosses _ _ _) (sym (w .2)) (both-on (is-row e) _ (crosses e) (tells-yes (w .0 .taken) (c .before .goes-on .ensures)) _ (w .1 .ensures)))
+    (λ w. subst (Crosses _ _ _) (sym (w .2)) (w .1 .ensures u)) (c .if2 .came)
 
 -- its columns
-stretch : (c : tie.After-next Inv-loop μ-loop) → let l = c .before .before .before in
-    StretchOf (points (now (l .before .before .before .before .before .before .args .corners))) (l .loop .y) (c .before .across .result)
-stretch c = let e = c .before .before in columns-between (is-row e) _ (e .before .loop .inv .1 (row e)) _ (c .before .across .ensures)
+stretch : (c : tie.After-across Inv-loop μ-loop) → let l = c .before .before in
+    StretchOf (points (now (l .before .before .before .before .before .before .args .corners))) (l .loop .y) (c .across .result)
+stretch c = columns-between (is-row (c .before)) _ (crosses (c .before)) _ (c .across .ensures)
 
 placed-requires : tie.Need-placed-requires Inv-loop μ-loop
-placed-requires c κs = omega (arith, few (c .before .before .before), row (c .before .before))
+placed-requires c κs = let e = c .before .before .before in omega (arith, few (e .before), row e)
 
 end-of-row-requires : tie.Need-end-of-row-requires Inv-loop μ-loop
-end-of-row-requires c κs = let l = c .before .before .before .before in
+end-of-row-requires c κs = let l = c .before .before .before .before .before in
     (walked (l .before .before .before .before) .order, l .loop .inv .0 .leads .upto)
 
 -- the points of the row
-held : (c : tie.After-end-of-row Inv-loop μ-loop) → let l = c .before .before .before .before .before in
+held : (c : tie.After-end-of-row Inv-loop μ-loop) → let l = c .before .before .before .before .before .before in
     Holds (points (now (l .before .before .before .before .before .before .args .list))) (placed (l .loop .y)) (l .loop .begin) (c .end-of-row .result)
-held c = let l = c .before .before .before .before .before in
+held c = let l = c .before .before .before .before .before .before in
     let p = l .before .before .before .before in
     ends-hold _ _ _ _ (walked p .order) (l .loop .inv .0 .leads)
     (subst (λ y. RunsTo (points (now (p .before .before .args .list))) y (l .loop .begin) (c .end-of-row .result))
     (read-back (c .before .placed .result) (record { sfits = c .before .placed .ok }) ∙ c .before .placed .ensures) (c .end-of-row .ensures))
 
 -- they lie in the list
-inside : (c : tie.After-end-of-row Inv-loop μ-loop) → let l = c .before .before .before .before .before in 2 * c .end-of-row .result ≤ length (now (l .before .before .before .before .before .before .args .list))
-inside c = let l = c .before .before .before .before .before in
+inside : (c : tie.After-end-of-row Inv-loop μ-loop) → let l = c .before .before .before .before .before .before in 2 * c .end-of-row .result ≤ length (now (l .before .before .before .before .before .before .args .list))
+inside c = let l = c .before .before .before .before .before .before in
     omega (arith, held c .inside, points-length (now (l .before .before .before .before .before .before .args .list)))
 
 -- the list and the room have fewer bytes than the machine counts
@@ -111,7 +134,7 @@ short : (a : tie.Start Inv-loop μ-loop) → (length (now (a .args .list)) < 461
 short a = (omega arith, omega arith)
 
 list-short : (c : tie.After-end-of-row Inv-loop μ-loop) → 2 * c .end-of-row .result < 4611686018427387904
-list-short c = omega (arith, inside c, short (c .before .before .before .before .before .before .before .before .before .before .before) .0)
+list-short c = omega (arith, inside c, short (c .before .before .before .before .before .before .before .before .before .before .before .before) .0)
 
 mul-write-row : tie.Need-mul-write-row Inv-loop μ-loop
 mul-write-row c = omega (arith, list-short c, held c .rising)
@@ -143,42 +166,42 @@ room-short : (c : tie.At-loop Inv-loop μ-loop) → 2 * c .loop .used < 46116860
 room-short c = omega (arith, used c, long c, short (c .before .before .before .before .before .before) .1)
 
 mul-write-row-4 : tie.Need-mul-write-row-4 Inv-loop μ-loop
-mul-write-row-4 c = omega (arith, room-short (c .before .before .before .before .before .before))
+mul-write-row-4 c = omega (arith, room-short (c .before .before .before .before .before .before .before))
 
 mul-write-row-5 : tie.Need-mul-write-row-5 Inv-loop μ-loop
-mul-write-row-5 c = omega (arith, room-short (c .before .before .before .before .before .before))
+mul-write-row-5 c = omega (arith, room-short (c .before .before .before .before .before .before .before))
 
 sub-write-row-2 : tie.Need-sub-write-row-2 Inv-loop μ-loop
-sub-write-row-2 c = used (c .before .before .before .before .before .before)
+sub-write-row-2 c = used (c .before .before .before .before .before .before .before)
 
 part-write-row-start-2 : tie.Need-part-write-row-start-2 Inv-loop μ-loop
-part-write-row-start-2 c = used (c .before .before .before .before .before .before)
+part-write-row-start-2 c = used (c .before .before .before .before .before .before .before)
 
 part-write-row-end-2 : tie.Need-part-write-row-end-2 Inv-loop μ-loop
 part-write-row-end-2 c = omega arith
 
 write-row-requires : tie.Need-write-row-requires Inv-loop μ-loop
 write-row-requires c κs = let r = c .before .before in
-    let l = r .before .before .before .before .before in
+    let l = r .before .before .before .before .before .before in
     let p = l .before .before .before .before in
-    let m = row (r .before .before .before .before) in (
-      row-is (walked p) _ _ _ _ (stretch (r .before .before)) (held r),
+    let m = row (r .before .before .before .before .before) in (
+      row-is (walked p) _ _ _ _ (stretch (r .before .before .before .before)) (held r),
       omega (arith, few l, m),
-      written-room (walked p) (p .peak .ensures) _ (p .before .before .pre .1) _ _ _ _ (l .loop .inv .0) m _ (stretch (r .before .before)) _ (held r),
+      written-room (walked p) (p .peak .ensures) _ (p .before .before .pre .1) _ _ _ _ (l .loop .inv .0) m _ (stretch (r .before .before .before .before)) _ (held r),
     )
 
 -- one row more is written
 next : tie.Need-loop-again Inv-loop μ-loop
 next c = let r = c .before .before .before .before in
-    let l = r .before .before .before .before .before in
+    let l = r .before .before .before .before .before .before in
     let p = l .before .before .before .before in (
-      written-more (walked p) (p .peak .ensures) _ (p .before .before .pre .1) _ _ _ _ (l .loop .inv .0) (row (r .before .before .before .before)) _ (stretch (r .before .before)) _ (held r)
+      written-more (walked p) (p .peak .ensures) _ (p .before .before .pre .1) _ _ _ _ (l .loop .inv .0) (row (r .before .before .before .before .before)) _ (stretch (r .before .before .before .before)) _ (held r)
           _ _ (c .before .write-row .ensures),
-      λ u. r .before .before .next .ensures (omega (arith, u)),
+      λ u. sides (r .before .before) (omega (arith, u)),
     )
 
 add-used : tie.Need-add-used Inv-loop μ-loop
-add-used c = let p = c .before .before .before .before .before .before .before .before .before .before .before .before .before in
+add-used c = let p = c .before .before .before .before .before .before .before .before .before .before .before .before .before .before in
     omega (
       arith,
       written-used (walked p) (p .peak .ensures) _ (p .before .before .pre .1) _ _ _ _ (next c .0),
@@ -186,10 +209,10 @@ add-used c = let p = c .before .before .before .before .before .before .before .
     )
 
 add-y : tie.Need-add-y Inv-loop μ-loop
-add-y c = let t = c .before .before .before .before .before .before .before .before in omega (arith, few (t .before), row t)
+add-y c = let t = c .before .before .before .before .before .before .before .before .before in omega (arith, few (t .before), row t)
 
 loop-less : tie.Need-loop-less Inv-loop μ-loop
-loop-less c = omega (arith, c .before .before .before .before .before .before .before .before .loop-test .taken)
+loop-less c = omega (arith, c .before .before .before .before .before .before .before .before .before .loop-test .taken)
 
 loop-again : tie.Need-loop-again Inv-loop μ-loop
 loop-again c = next c
@@ -214,7 +237,9 @@ write-spec =
     start-requires
     loop-holds
     across-requires
-    next-requires
+    goes-on-requires
+    further-requires
+    past-corner-requires
     placed-requires
     end-of-row-requires
     mul-write-row
