@@ -8,12 +8,16 @@ emulator=$tools/bin/qemu-x86_64
 for word in $(env | sed -n 's/^\(QEMU_[A-Za-z0-9_]*\)=.*/\1/p'); do unset "$word"; done
 
 # Proves and builds: quick where nothing changed, silent unless it fails. A program stands in target/bin, an archive in target/staticlib.
+# `rt staticlib` proves its crate every time, so it is asked only where `rt check` has proved it anew since.
 made() {
     mkdir -p target/build
     rt "$1" "$2" </dev/null >"target/build/$2" 2>&1 || { cat "target/build/$2" >&2; exit 2; }
 }
 build() { made check "$1"; }
-archive() { made staticlib "$1"; }
+archive() {
+    build "$1"
+    [ "target/staticlib/lib$1.a" -nt "target/rlib/$1.rlib" ] || made staticlib "$1"
+}
 
 # Runs a program that is built.
 program() {
@@ -37,4 +41,14 @@ linking() {
     runner='qemu-x86_64 -L /usr/x86_64-linux-gnu'
     wanted "$compiler" gcc-x86-64-linux-gnu libc6-dev-amd64-cross
     wanted qemu-x86_64 qemu-user
+}
+
+# Builds a program in C with the archive in it, target/linked/NAME, which $runner runs if it is not empty: linked NAME SOURCE ..
+linked() {
+    linking
+    archive grain
+    mkdir -p target/linked
+    name=$1
+    shift
+    "$compiler" -std=c11 -O2 -Wall -Wextra -Werror -Iinclude -o "target/linked/$name" "$@" target/staticlib/libgrain.a || exit 2
 }

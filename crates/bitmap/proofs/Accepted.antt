@@ -2,48 +2,25 @@
 -- them. Assumes nothing.
 use mathlib.Core.Path.{_≡_, refl, sym, _∙_, ap, subst}
 use mathlib.Core.Bool.{Bool, true, false, cond}
-use mathlib.Core.List.{List, [], _∷_}
-use Prim.Native.Nat.{ℕ, zero, suc, _*_, _≤_, _<_}
+use mathlib.Core.List.{List}
+use Prim.Native.Nat.{ℕ, _*_, _≤_, _<_}
 use native.Mathlib.Omega.{arith}
 use borrow.Author.Tests.{ltb-false}
-use lib.Dec.{eqb, ltb}
+use lib.Dec.{ltb}
 use lib.ListN.{length, take, drop}
 use lib.IntN.{ℤ}
 use Rattle.lattice.specs.Point.{Point, InRange, most, points, All, Pairs, Before, Lists}
 use Rattle.lattice.proofs.Rooms.{holding-points}
-use Rattle.bitmap.specs.declared.header.Header.{Header}
-use Rattle.bitmap.specs.declared.header.Header.the-variants.{Sound, Bad}
+use Rattle.netpbm.specs.Raster.{Raster, pixels, fault, black}
+use Rattle.netpbm.proofs.Points.{BlackPixel, black-lists, black-range}
+use Rattle.header.specs.declared.Header.{Header}
+use Rattle.header.specs.declared.Header.the-variants.{Sound, Bad}
+use Rattle.header.specs.Header.{headerOf}
+use Rattle.header.proofs.Headers.{sound-sizes}
+use Rattle.plain.specs.Plain.{plainAt}
+use Rattle.plain.proofs.Outcome.{plain-length, fault-numbered}
 use Rattle.bitmap.specs.declared.Picture.{Picture}
-use Rattle.bitmap.specs.Bytes.{whiteSpace}
-use Rattle.bitmap.specs.Header.{headerOf}
-use Rattle.bitmap.specs.Pixels.{Raster, pixels, fault, onto, plain, plainAt, black}
 use Rattle.bitmap.specs.Picture.{Reading, picture, refused, longest, beginsP1, rastered, headed, readingOf, answerOf, listAfter, PicturePromise}
-use Rattle.bitmap.proofs.Headers.{sound-sizes}
-use Rattle.bitmap.proofs.Plain.{none-left}
-use Rattle.bitmap.proofs.Writing.{onto-pixels}
-use Rattle.bitmap.proofs.Points.{BlackPixel, black-lists, black-range}
-
--- ---- as many pixels as the header says
-pub plain-length : (l : List ℕ) (n i : ℕ) (m : List Bool) → plain l n i ≡ pixels m → length m ≡ n
-plain-length [] zero i m e = ap length (none-left [] i m e)
-plain-length [] (suc n) i m e = absurd (let z : _≡_ {A = ℕ} 0 1 = cc in omega arith)
-plain-length (b ∷ l) zero i m e = ap length (none-left (b ∷ l) i m e)
-plain-length (b ∷ l) (suc n) i m e =
-    by-tests (whiteSpace b) (eqb b 49) (eqb b 48) e (plain-length l (suc n) (suc i) m) (plain-length l n (suc i))
-  where
-    one-more : (p : Bool) → onto p (plain l n (suc i)) ≡ pixels m → ((q : List Bool) → plain l n (suc i) ≡ pixels q → length q ≡ n)
-        → length m ≡ suc n
-    one-more p f h = let r = onto-pixels p (plain l n (suc i)) m f in ap length (r .2) ∙ ap suc (h (r .0) (r .1))
-
-    by-tests : (space black white : Bool)
-        → cond space (plain l (suc n) (suc i))
-        (cond black (onto true (plain l n (suc i))) (cond white (onto false (plain l n (suc i))) (fault 23 i))) ≡ pixels m
-        → (plain l (suc n) (suc i) ≡ pixels m → length m ≡ suc n)
-        → ((q : List Bool) → plain l n (suc i) ≡ pixels q → length q ≡ n) → length m ≡ suc n
-    by-tests true black white f g h = g f
-    by-tests false true white f g h = one-more true f h
-    by-tests false false true f g h = one-more false f h
-    by-tests false false false f g h = absurd (let z : _≡_ {A = ℕ} 0 1 = cc in omega arith)
 
 -- ---- a refusal has a number, and a picture's points are its black pixels, as the calls over points want them
 pub record Drawn (bytes : List ℕ) (width height : ℕ) (l : List Point) : Type 0 where
@@ -62,33 +39,6 @@ Fair bytes (refused number place) = 0 < number
 either-fair : (bytes : List ℕ) (t : Bool) (a b : Reading) → (t ≡ true → Fair bytes a) → (t ≡ false → Fair bytes b) → Fair bytes (cond t a b)
 either-fair bytes true a b f g = f refl
 either-fair bytes false a b f g = g refl
-
-onto-numbered : (p : Bool) (r : Raster) → ((number place : ℕ) → r ≡ fault number place → 0 < number)
-    → (number place : ℕ) → onto p r ≡ fault number place → 0 < number
-onto-numbered p (pixels l) f number place e = absurd (let z : _≡_ {A = ℕ} 0 1 = cc in omega arith)
-onto-numbered p (fault n i) f number place e = f number place e
-
-fault-numbered : (l : List ℕ) (n i number place : ℕ) → plain l n i ≡ fault number place → 0 < number
-fault-numbered [] zero i number place e = absurd (let z : _≡_ {A = ℕ} 0 1 = cc in omega arith)
-fault-numbered [] (suc n) i number place e = let f : number ≡ 24 = cc in omega arith
-fault-numbered (b ∷ l) zero i number place e = by-space (whiteSpace b) e (fault-numbered l zero (suc i) number place)
-  where
-    by-space : (t : Bool) → cond t (plain l zero (suc i)) (fault 25 i) ≡ fault number place
-        → (plain l zero (suc i) ≡ fault number place → 0 < number) → 0 < number
-    by-space true f g = g f
-    by-space false f g = let h : number ≡ 25 = cc in omega arith
-fault-numbered (b ∷ l) (suc n) i number place e =
-    by-tests (whiteSpace b) (eqb b 49) (eqb b 48) e (fault-numbered l (suc n) (suc i) number place) (fault-numbered l n (suc i))
-  where
-    by-tests : (space black white : Bool)
-        → cond space (plain l (suc n) (suc i))
-        (cond black (onto true (plain l n (suc i))) (cond white (onto false (plain l n (suc i))) (fault 23 i))) ≡ fault number place
-        → (plain l (suc n) (suc i) ≡ fault number place → 0 < number)
-        → ((m j : ℕ) → plain l n (suc i) ≡ fault m j → 0 < m) → 0 < number
-    by-tests true black white f g h = g f
-    by-tests false true white f g h = onto-numbered true (plain l n (suc i)) h number place f
-    by-tests false false true f g h = onto-numbered false (plain l n (suc i)) h number place f
-    by-tests false false false f g h = let k : number ≡ 23 = cc in omega arith
 
 reading-fair : (bytes : List ℕ) → Fair bytes (readingOf bytes)
 reading-fair bytes =
@@ -109,7 +59,7 @@ reading-fair bytes =
           raster = f;
           lists = black-lists width l (s .0 .0);
           few = ltb-false most (length points) g;
-          range = black-range width height l (s .0 .0) (s .0 .1) (s .1 .1) (plain-length (drop at bytes) (width * height) at l f);
+          range = black-range width height l (s .0 .0) (omega (arith, s .0 .1)) (omega (arith, s .1 .1)) (plain-length (drop at bytes) (width * height) at l f);
         })
     by-raster width height at e (fault number place) f = fault-numbered (drop at bytes) (width * height) at number place f
 

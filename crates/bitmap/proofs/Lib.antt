@@ -1,16 +1,5 @@
--- Laws of the loops of this crate.
-pub mod Tests
-pub mod Reading
-pub mod Parts
-pub mod Sizes
-pub mod Headers
-pub mod Plain
-pub mod Counting
-pub mod Writing
-pub mod Tallies
+-- Laws of a bitmap as a whole, and of what `read` promises.
 pub mod Pictures
-pub mod Rows
-pub mod Points
 pub mod Pinned
 pub mod Accepted
 pub mod Example

@@ -2,7 +2,7 @@
 use mathlib.Core.Path.{_≡_, refl, sym, _∙_, ap}
 use mathlib.Core.Bool.{Bool, true, false, true≢false, _&&_}
 use mathlib.Core.List.{List, [], _∷_}
-use Prim.Native.Nat.{ℕ, suc, _+_, _*_, _≤_, _<_}
+use Prim.Native.Nat.{ℕ, suc, _*_, _≤_, _<_}
 use native.Mathlib.Nat.{mul-le-mul}
 use native.Mathlib.Omega.{arith}
 use borrow.Author.Tests.{lt-ltb, le-ltb}
@@ -12,14 +12,16 @@ use lib.IntN.{ℤ}
 use Rattle.lattice.specs.Point.{most}
 use Rattle.lattice.proofs.Lists.{either}
 use Rattle.lattice.proofs.Places.{lt-or-le}
-use Rattle.bitmap.specs.declared.pixels.Count.the-variants as counts
-use Rattle.bitmap.specs.declared.header.Header.the-variants.{Sound, Bad}
+use Rattle.netpbm.specs.declared.Count.the-variants as counts
+use Rattle.netpbm.specs.Raster.{Raster, black, blackIn}
+use Rattle.netpbm.specs.Steps.{counted, Writable}
+use Rattle.netpbm.proofs.Counting.{counted-fault, counted-pixels}
+use Rattle.header.specs.declared.Header.the-variants.{Sound, Bad}
+use Rattle.header.specs.Header.{greatestSize, headerOf}
+use Rattle.header.proofs.Headers.{sound-sizes}
+use Rattle.plain.specs.Plain.{plainAt}
 use Rattle.bitmap.specs.declared.Picture.{Picture}
-use Rattle.bitmap.specs.Header.{greatestSize, headerOf}
-use Rattle.bitmap.specs.Pixels.{Raster, pixels, fault, plainAt, black, blackIn}
 use Rattle.bitmap.specs.Picture.{Reading, picture, refused, longest, beginsP1, rastered, headed, readingOf, answerOf, listAfter, PicturePromise}
-use Rattle.bitmap.specs.Steps.{blacks, counted, Writable}
-use Rattle.bitmap.proofs.Headers.{sound-sizes}
 
 -- ---- what begins with P1 has two bytes
 pub short : (bytes : List ℕ) → length bytes < 2 → false ≡ beginsP1 bytes
@@ -57,41 +59,28 @@ module _ (bytes : List ℕ) where
         pub to-raster : readingOf bytes ≡ rastered width height (plainAt bytes (width * height) at)
         to-raster = to-header ∙ ap (headed bytes) e
 
--- ---- the raster, from its count
-counted-fault : (r : Raster) (number place : ℕ) → counts.Fault number place ≡ counted 0 r → r ≡ fault number place
-counted-fault (pixels l) number place e = absurd (let z : _≡_ {A = ℕ} 0 1 = cc in omega arith)
-counted-fault (fault n i) number place e = cc
-
-counted-pixels : (r : Raster) (c : ℕ) → counts.Black c ≡ counted 0 r → (l : List Bool) × (r ≡ pixels l) × (c ≡ blacks l)
-counted-pixels (pixels l) c e = (l, refl, let f : c ≡ 0 + blacks l = cc in omega arith)
-counted-pixels (fault n i) c e = absurd (let z : _≡_ {A = ℕ} 0 1 = cc in omega arith)
-
-pub black-length : (width k : ℕ) (l : List Bool) → length (black width k l) ≡ blacks l
-black-length width k [] = refl
-black-length width k (true ∷ l) = ap suc (black-length width (suc k) l)
-black-length width k (false ∷ l) = black-length width (suc k) l
-
+-- ---- what the raster makes of it, from its count
 module _ (width height : ℕ) (r : Raster) where
   pub raster-fault : (number place : ℕ) → counts.Fault number place ≡ counted 0 r → rastered width height r ≡ refused number place
   raster-fault number place e = ap (rastered width height) (counted-fault r number place e)
 
   module _ (c : ℕ) (e : counts.Black c ≡ counted 0 r) where
     counted-length : length (blackIn width r) ≡ c
-    counted-length = let p = counted-pixels r c e in ap (λ q. length (blackIn width q)) (p .1) ∙ black-length width 0 (p .0) ∙ sym (p .2)
+    counted-length = let p = counted-pixels width r c e in ap (λ q. length (blackIn width q)) (p .1) ∙ p .2
 
     pub an-answer : record { number = 0; place = 0; points = c; width = width; height = height } ≡ answerOf (picture width height (blackIn width r))
     an-answer = λ i. record { number = 0; place = 0; points = sym counted-length i; width = width; height = height }
 
     pub too-many : most < c → rastered width height r ≡ refused 2 0
     too-many h =
-        let p = counted-pixels r c e in
-        let g : most < length (black width 0 (p .0)) = omega (arith, black-length width 0 (p .0), p .2) in
+        let p = counted-pixels width r c e in
+        let g : most < length (black width 0 (p .0)) = omega (arith, p .2) in
         ap (rastered width height) (p .1) ∙ rw (lt-ltb most (length (black width 0 (p .0))) g)
 
     pub a-picture : c ≤ most → rastered width height r ≡ picture width height (blackIn width r)
     a-picture h =
-        let p = counted-pixels r c e in
-        let g : length (black width 0 (p .0)) ≤ most = omega (arith, black-length width 0 (p .0), p .2) in
+        let p = counted-pixels width r c e in
+        let g : length (black width 0 (p .0)) ≤ most = omega (arith, p .2) in
         ap (rastered width height) (p .1) ∙ rw (le-ltb most (length (black width 0 (p .0))) g)
         (ap (λ q. picture width height (blackIn width q)) (sym (p .1)))
 
@@ -104,12 +93,12 @@ pub writable : (bytes : List ℕ) (width height at : ℕ) → headerOf bytes ≡
     → (list : List ℤ) → 2 * most ≤ length list → Writable (plainAt bytes (width * height) at) width (width * height) list
 writable bytes width height at e c f h list room =
     let r = plainAt bytes (width * height) at in
-    let p = counted-pixels r c f in
+    let p = counted-pixels width r c f in
     record {
       sound = (p .0, p .1);
       few = omega (arith, counted-length width height r c f);
       wide = sound-sizes width height at bytes e .0 .0;
-      small = pixel-count bytes width height at e;
+      small = omega (arith, pixel-count bytes width height at e);
       room = room;
     }
 

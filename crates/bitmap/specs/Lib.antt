@@ -1,6 +1,2 @@
--- What a plain bitmap says, byte by byte, and what `read` promises of it.
-pub mod Bytes
-pub mod Header
-pub mod Pixels
+-- What a bitmap says as a whole, and what `read` promises of it.
 pub mod Picture
-pub mod Steps

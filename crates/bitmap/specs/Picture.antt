@@ -8,11 +8,12 @@ use lib.ListN.{length, getD}
 use lib.IntN.{ℤ}
 use Rattle.lattice.specs.Point.{Point, most}
 use Rattle.lattice.specs.Room.{holding}
-use Rattle.bitmap.specs.declared.header.Header.{Header}
-use Rattle.bitmap.specs.declared.header.Header.the-variants.{Sound, Bad}
+use Rattle.netpbm.specs.Raster.{Raster, pixels, fault, black}
+use Rattle.header.specs.declared.Header.{Header}
+use Rattle.header.specs.declared.Header.the-variants.{Sound, Bad}
+use Rattle.header.specs.Header.{headerOf}
+use Rattle.plain.specs.Plain.{plainAt}
 use Rattle.bitmap.specs.declared.Picture.{Picture}
-use Rattle.bitmap.specs.Header.{headerOf}
-use Rattle.bitmap.specs.Pixels.{Raster, pixels, fault, plainAt, black}
 
 -- a picture with its black pixels, or number and place of its refusal
 pub data Reading : Type 0 where

@@ -1,17 +1,11 @@
 // Plain bitmaps: the bytes of a picture, checked, and its black pixels as points.
-mod black;
-mod header;
-mod pixels;
-
 ghost use mathlib.Core.Path.{_≡_};
 ghost use Rattle.bitmap.specs.Picture.{refused as refusedOf, beginsP1, answerOf, PicturePromise};
 use header::Header;
-use pixels::Count;
+use netpbm::Count;
 
-// The longest file, the greatest width and height, and the numbers that the list has room for.
+// The longest file, and the numbers that the list has room for.
 pub const LONGEST: usize = 65536;
-
-pub const GREATEST_SIZE: usize = 1024;
 
 pub const ROOM: usize = 8192;
 
@@ -59,15 +53,15 @@ pub fn read(bytes: &[u8], list: &mut [i32; ROOM]) -> Picture
         return refused(20, LONGEST);
     }
     if begins(bytes) {
-        match header::check_header(bytes) {
+        match header::check(bytes) {
             Header::Sound { width, height, at } => {
                 let pixels = width * height;
-                match pixels::check_pixels(bytes, at, pixels) {
+                match plain::check(bytes, at, pixels) {
                     Count::Black(points) => {
                         if packed::MOST < points {
                             return refused(2, 0);
                         }
-                        black::write_points(bytes, at, width, pixels, list);
+                        black::write(bytes, at, width, pixels, list);
                         return Picture {
                             number: 0,
                             place: 0,

@@ -4,11 +4,11 @@
 use mathlib.Core.List.{List}
 use lib.IntN.{ℤ}
 use Rattle.order.specs.declared.Ordered.{Ordered}
-use Rattle.order.specs.declared.Ends.{Ends}
+use Rattle.rows.specs.declared.Ends.{Ends}
 use Rattle.order.specs.Order.{OrderPromise}
-use Rattle.order.specs.Row.{RowEndsPromise, RowPromise}
+use Rattle.rows.specs.Row.{RowEndsPromise, RowPromise}
 use Rattle.order.proofs.Ordering.{order-pinned}
-use Rattle.order.proofs.Pinned.{row-ends-pinned, row-pinned}
+use Rattle.rows.proofs.Pinned.{row-ends-pinned, row-pinned}
 use Rattle.hull.specs.declared.Hulled.{Hulled}
 use Rattle.hull.specs.Hull.{HullPromise}
 use Rattle.hull.proofs.Hulling.{hull-pinned}

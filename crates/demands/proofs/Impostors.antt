@@ -18,7 +18,7 @@ use Rattle.lattice.proofs.Refusals.{range?}
 use Rattle.lattice.proofs.RowLists.{row-order-exists}
 use Rattle.lattice.proofs.CornerLists.{corner-list-exists}
 use Rattle.lattice.proofs.Grains.{grains-hold}
-use Rattle.order.specs.Row.{Sound}
+use Rattle.rows.specs.Row.{Sound}
 use Rattle.report.specs.declared.Reported.{Reported}
 use Rattle.report.specs.Report.{ReportPromise}
 use Rattle.demands.specs.Demands.{RoomFor, Begins}

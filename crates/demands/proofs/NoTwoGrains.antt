@@ -25,7 +25,7 @@ use Rattle.lattice.proofs.MissingLists.{missing-list-exists, kept-list-exists}
 use Rattle.lattice.proofs.Refusals.{within-range}
 use Rattle.lattice.proofs.Tables.{Passes, list-passes}
 use Rattle.lattice.proofs.Demand.{report-tells}
-use Rattle.order.specs.Row.{Sound}
+use Rattle.rows.specs.Row.{Sound}
 use Rattle.report.specs.declared.Reported.{Reported}
 use Rattle.report.specs.Report.{reportRows, ReportPromise}
 use Rattle.rebuild.specs.declared.Rebuilt.{Rebuilt}

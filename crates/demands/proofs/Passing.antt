@@ -12,7 +12,7 @@ use Rattle.lattice.specs.Refusal.{Table, accepted, _when_else_, Gives, listRows
 use Rattle.lattice.proofs.CornerLists.{corner-list-unique}
 use Rattle.lattice.proofs.MissingLists.{missing-list-unique}
 use Rattle.lattice.proofs.Tables.{Numbered, unnumbered, whole-never, none-out-of-range, none-repeats}
-use Rattle.order.specs.Row.{Sound}
+use Rattle.rows.specs.Row.{Sound}
 use Rattle.report.specs.Report.{reportRows}
 use Rattle.demands.specs.Demands.{NoneApplies, RoomFor}
 

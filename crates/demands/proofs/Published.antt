@@ -17,7 +17,7 @@ use Rattle.lattice.proofs.SameMembers.{lists-unique}
 use Rattle.lattice.proofs.CornerLists.{corner-list-unique}
 use Rattle.lattice.proofs.MissingLists.{missing-list-unique, convex-exactly}
 use Rattle.order.specs.declared.Ordered.{Ordered}
-use Rattle.order.specs.Row.{Sound}
+use Rattle.rows.specs.Row.{Sound}
 use Rattle.order.specs.Order.{OrderResult, OrderPromise}
 use Rattle.hull.specs.declared.Hulled.{Hulled}
 use Rattle.hull.specs.Hull.{HullResult, HullPromise}

@@ -20,7 +20,7 @@ use Rattle.lattice.proofs.CornerLists.{corner-list-of-some, hull-of-corners}
 use Rattle.lattice.proofs.MissingLists.{missing-list-exists, missing-count-distinct, convex-exactly}
 use Rattle.packed.specs.Packed.{unpacked}
 use Rattle.packed.proofs.KeyLaws.{lists-small}
-use Rattle.packed.specs.Corners.{HullOf, Cornered, CountOf}
+use Rattle.packed.specs.Corners.{Outline, CountOf}
 use Rattle.figures.specs.Quotient.{exact, rounded}
 use Rattle.figures.specs.Figure.{Solidity, Summable, Outlines}
 use Rattle.figures.proofs.Rounding.{Divides, divides, one, one-exactly, quotient-finite}
@@ -68,15 +68,15 @@ module _ (s : List Point) (some : 0 < length s) (range : All InRange s) (once : 
       (quotient-finite (pos (length s)) (length (h .lattice)) points-exact (lattice-some s some range (h .lattice) (h .listed)))
 
 -- ---- as the code divides
-module _ (list : List ℤ) (corners : List ℕ) (h : Summable list) (o : Outlines (points list) corners) where
-  pub outline-cornered : Cornered corners
-  outline-cornered = record { below = o .below; listed = corner-list-of-some (map unpacked corners) .1 (points list, o .corner) }
+module _ (list corners : List ℤ) (h : Summable list) (o : Outlines (points list) corners) where
+  pub own-outline : Outline corners
+  own-outline = record { range = o .range; listed = corner-list-of-some (points corners) .1 (points list, o .corner) }
 
-  module _ (r : ℕ) (n : CountOf (HullOf corners) r) where
+  module _ (r : ℕ) (n : CountOf (InHull (Of (points corners))) r) where
     hull-listed : Lists (InHull (Of (points list))) (n .0)
     hull-listed =
-        let same = hull-of-corners (points list) (map unpacked corners) (o .corner) in
-        lists-same (HullOf corners) (InHull (Of (points list))) (λ p. same p .1) (λ p. same p .0) (n .0) (n .1)
+        let same = hull-of-corners (points list) (points corners) (o .corner) in
+        lists-same (InHull (Of (points corners))) (InHull (Of (points list))) (λ p. same p .1) (λ p. same p .0) (n .0) (n .1)
 
     pub counted-exact : (0 < r) × (r ≤ exact)
     counted-exact =

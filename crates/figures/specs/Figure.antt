@@ -1,14 +1,12 @@
 -- The two figures of a set of points (document 01, "Figures"). Assumes nothing.
 use mathlib.Core.Path.{_≡_}
-use mathlib.Core.List.{List, [], _∷_, map}
+use mathlib.Core.List.{List, [], _∷_}
 use Prim.Native.Nat.{ℕ, zero, suc, _≤_, _<_}
 use lib.ListN.{length}
 use lib.IntN.{ℤ, pos, _+ℤ_}
 use lib.Ieee.{Float}
 use Rattle.lattice.specs.Point.{Point, InRange, most, points, All, Lists}
 use Rattle.lattice.specs.Hull.{InHull, Of, CornerList}
-use Rattle.packed.specs.Packed.{unpacked}
-use Rattle.order.specs.Keys.{Below}
 use Rattle.figures.specs.declared.Centroid.{Centroid}
 use Rattle.figures.specs.Quotient.{rounded}
 
@@ -39,7 +37,7 @@ pub record Summable (list : List ℤ) : Type 0 where
   pub few : length (points list) ≤ most
   pub range : All InRange (points list)
 
--- the packed corners of s
-pub record Outlines (s : List Point) (corners : List ℕ) : Type 0 where
-  pub below : Below corners
-  pub corner : CornerList s (map unpacked corners)
+-- the corners of s, in range
+pub record Outlines (s : List Point) (corners : List ℤ) : Type 0 where
+  pub range : All InRange (points corners)
+  pub corner : CornerList s (points corners)

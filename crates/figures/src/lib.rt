@@ -3,8 +3,6 @@ ghost use mathlib.Core.Path.{_≡_};
 ghost use Prim.Native.Nat.{_<_, _≤_};
 ghost use lib.ListN.{length};
 ghost use Rattle.lattice.specs.Point.{points};
-ghost use Rattle.order.specs.Keys.{Fits};
-ghost use Rattle.hull.specs.Found.{HullSpace};
 ghost use Rattle.figures.specs.Quotient.{exact, rounded};
 ghost use Rattle.figures.specs.Figure.{coordinate as coordinateOf, sum as sumOf, centroidOf, Solidity, Summable, Outlines};
 ghost use Rattle.figures.specs.Figures.{FiguresPromise};
@@ -65,29 +63,20 @@ fn centroid_of(list: &[i32]) -> Centroid
 }
 
 // How many of the lattice points in the hull are points of the list.
-fn solidity_of(list: &[i32], corners: &[u32]) -> f64
+fn solidity_of(list: &[i32], corners: &[i32]) -> f64
     requires { ⌜ Summable (now list) × Outlines (points (now list)) (now corners) ⌝ }
     ensures { λ r. ⌜ Solidity (points (now (list .entry))) r ⌝ }
 {
     let n = list.len() / 2;
-    let lattice = pick::count(corners);
+    let lattice = pick::count_of(corners);
     quotient(n as i32, lattice)
 }
 
-// Figures, in working space that is lent.
-fn figures_in(
-    list: &[i32],
-    ordered: &mut [i32],
-    corners: &mut [i32],
-    words: &mut [u64],
-    sorted: &mut [u64],
-    keys: &mut [u32],
-    stack: &mut [u32],
-) -> Figured
-    requires { ⌜ HullSpace (now list) (now words) (now sorted) (now keys) (now stack) ⌝ }
+// The centroid of a list of points and its solidity; points in row order and corners, each at the front of its room.
+pub fn figures(list: &[i32], ordered: &mut [i32], corners: &mut [i32]) -> Figured
     ensures { λ r. ⌜ FiguresPromise (now (list .entry)) (now (ordered .entry)) (now (corners .entry)) r (now (ordered .exit)) (now (corners .exit)) ⌝ }
 {
-    let found = hull::find(list, ordered, corners, words, sorted, keys, stack);
+    let found = hull::hull(list, ordered, corners);
     let number = found.number;
     let place = found.place;
     let n = found.points;
@@ -95,83 +84,11 @@ fn figures_in(
     if number != 0 {
         return Figured::Refused { number, place };
     }
-    hull::write(&keys[..n], &stack[..count], ordered, corners);
     if n == 0 {
         return Figured::None;
     }
     Figured::Given {
         centroid: centroid_of(list),
-        solidity: solidity_of(list, &stack[..count]),
+        solidity: solidity_of(list, &corners[..2 * count]),
     }
-}
-
-// Figures with as much working space as the list asks for.
-fn figures_few(list: &[i32], ordered: &mut [i32], corners: &mut [i32]) -> Figured
-    requires { ⌜ Fits 64 (now list) ⌝ }
-    ensures { λ r. ⌜ FiguresPromise (now (list .entry)) (now (ordered .entry)) (now (corners .entry)) r (now (ordered .exit)) (now (corners .exit)) ⌝ }
-{
-    let mut words = [0u64; 64];
-    let mut sorted = [0u64; 64];
-    let mut keys = [0u32; 64];
-    let mut stack = [0u32; 128];
-    figures_in(
-        list,
-        ordered,
-        corners,
-        &mut words,
-        &mut sorted,
-        &mut keys,
-        &mut stack,
-    )
-}
-
-fn figures_some(list: &[i32], ordered: &mut [i32], corners: &mut [i32]) -> Figured
-    requires { ⌜ Fits 512 (now list) ⌝ }
-    ensures { λ r. ⌜ FiguresPromise (now (list .entry)) (now (ordered .entry)) (now (corners .entry)) r (now (ordered .exit)) (now (corners .exit)) ⌝ }
-{
-    let mut words = [0u64; 512];
-    let mut sorted = [0u64; 512];
-    let mut keys = [0u32; 512];
-    let mut stack = [0u32; 1024];
-    figures_in(
-        list,
-        ordered,
-        corners,
-        &mut words,
-        &mut sorted,
-        &mut keys,
-        &mut stack,
-    )
-}
-
-fn figures_many(list: &[i32], ordered: &mut [i32], corners: &mut [i32]) -> Figured
-    ensures { λ r. ⌜ FiguresPromise (now (list .entry)) (now (ordered .entry)) (now (corners .entry)) r (now (ordered .exit)) (now (corners .exit)) ⌝ }
-{
-    let mut words = [0u64; 4096];
-    let mut sorted = [0u64; 4096];
-    let mut keys = [0u32; 4096];
-    let mut stack = [0u32; 8192];
-    figures_in(
-        list,
-        ordered,
-        corners,
-        &mut words,
-        &mut sorted,
-        &mut keys,
-        &mut stack,
-    )
-}
-
-// The centroid of a list of points and its solidity; points in row order and corners, each at the front of its room.
-pub fn figures(list: &[i32], ordered: &mut [i32], corners: &mut [i32]) -> Figured
-    ensures { λ r. ⌜ FiguresPromise (now (list .entry)) (now (ordered .entry)) (now (corners .entry)) r (now (ordered .exit)) (now (corners .exit)) ⌝ }
-{
-    let tier = order::tier(list);
-    if tier == 0 {
-        return figures_few(list, ordered, corners);
-    }
-    if tier == 1 {
-        return figures_some(list, ordered, corners);
-    }
-    figures_many(list, ordered, corners)
 }

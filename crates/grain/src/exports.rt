@@ -1,7 +1,7 @@
 // The calls for other languages: include/grain.h declares them for C. Each list is a pointer and a length, each answer a struct as C lays
 // it out. Each call promises what the call of the same name promises, and asks for nothing.
 ghost use Rattle.order.specs.Order.{OrderPromise};
-ghost use Rattle.order.specs.Row.{RowEndsPromise};
+ghost use Rattle.rows.specs.Row.{RowEndsPromise};
 ghost use Rattle.hull.specs.Hull.{HullPromise};
 ghost use Rattle.report.specs.Report.{VerdictPromise, ReportPromise};
 ghost use Rattle.rebuild.specs.Rebuild.{RebuildPromise};
@@ -13,11 +13,11 @@ ghost use Rattle.grain.specs.Block.{FiguresBlockPromise};
 use bitmap::Picture;
 use figures::Figured;
 use hull::Hulled;
-use order::Ends;
 use order::Ordered;
 use rebuild::Rebuilt;
 use report::Judged;
 use report::Reported;
+use rows::Ends;
 
 // The three cases of Figures in one struct: a refusal has its number; of the others one is given.
 #[repr(C)]
@@ -42,7 +42,7 @@ pub extern "C" fn grain_order(list: &[i32], room: &mut [i32]) -> Ordered
 pub extern "C" fn grain_row_ends(list: &[i32], y: i32) -> Ends
     ensures { λ r. ⌜ RowEndsPromise (now (list .entry)) y r ⌝ }
 {
-    order::row_ends(list, y)
+    rows::row_ends(list, y)
 }
 
 #[no_mangle]

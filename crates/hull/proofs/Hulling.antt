@@ -1,46 +1,38 @@
 -- From what Order's find tells to what Hull's find tells, from there to what Hull promises, and that the promise pins the outcome. Assumes nothing.
 use mathlib.Core.Path.{_≡_, refl, sym, _∙_, ap, subst}
-use mathlib.Core.Logic.{inl, inr}
+use mathlib.Core.Bool.{Bool, true, false}
+use mathlib.Core.Logic.{_⊎_, inl, inr}
 use mathlib.Core.List.{List, map}
-use Prim.Native.Nat.{ℕ, zero, suc, _/_, _≤_}
+use Prim.Native.Nat.{ℕ, zero, suc, _+_, _*_, _/_, _≤_}
 use native.Mathlib.Omega.{arith}
-use lib.ListN.{length, getD, take, length-map}
+use lib.Dec.{ltb}
+use borrow.Author.Tests.{ltb-true, ltb-false}
+use lib.ListN.{length, take, length-map}
 use lib.Seq.{length-take-le}
 use lib.IntN.{ℤ}
-use Rattle.lattice.specs.Point.{Point, points, point, Before}
-use Rattle.lattice.specs.Hull.{Of, CornerList}
+use Rattle.lattice.specs.Point.{Point, InRange, points, Lists}
+use Rattle.lattice.specs.Hull.{InHull, Of, CornerList, Missing, MissingList}
 use Rattle.lattice.specs.Refusal.{Table, accepted, _when_else_, Gives, Whole, listRows}
 use Rattle.lattice.specs.Room.{holding, TooSmall}
-use Rattle.lattice.proofs.Lists.{either}
-use Rattle.lattice.proofs.Places.{lt-or-le, pairs-place}
+use Rattle.lattice.proofs.Lists.{either, all-in}
+use Rattle.lattice.proofs.Frame.{hull-in-range}
+use Rattle.lattice.proofs.Places.{lt-or-le}
 use Rattle.lattice.proofs.Refusals.{gives-unique}
-use Rattle.lattice.proofs.SameMembers.{lists-unique}
-use Rattle.lattice.proofs.CornerLists.{corner-list-unique, corner-list-same}
-use Rattle.lattice.proofs.Tables.{declined-before, passed-before, whole-first, whole-never, Passes, list-passes}
-use Rattle.packed.specs.Packed.{unpacked}
-use Rattle.packed.proofs.RowOrder.{unpacked-before}
+use Rattle.lattice.proofs.SameMembers.{lists-unique, lists-same}
+use Rattle.lattice.proofs.MissingLists.{missing-list-exists, missing-count, hull-list-exists}
+use Rattle.lattice.proofs.CornerLists.{corner-list-unique, corner-list-same, corner-list-of-some, hull-of-corners}
+use Rattle.lattice.proofs.Tables.{declined-before, passed-before, first-or-later, whole-first, whole-never, Passes, list-passes}
+use Rattle.packed.specs.Packed.{Tells, cells, unpacked}
+use Rattle.packed.specs.Keys.{Below}
+use Rattle.packed.proofs.KeyLaws.{lists-small, packed-hull-range}
+use Rattle.packed.specs.Corners.{HullOf, Cornered as PackedCorners, CountOf}
 use Rattle.order.specs.declared.Ordered.{Ordered}
-use Rattle.order.specs.Keys.{KeysOf, Finds}
+use Rattle.order.specs.Found.{Finds}
 use Rattle.order.proofs.Ordering.{FoundKeys}
-use Rattle.packed.proofs.KeyLaws.{unpacked-at}
 use Rattle.hull.specs.declared.Hulled.{Hulled}
-use Rattle.hull.specs.Scanning.{Rising, Cornered}
+use Rattle.scan.specs.Scanning.{Cornered}
 use Rattle.hull.specs.Hull.{FewerThanCorners, hullRows, Hulls, HullResult, HullPromise}
-use Rattle.hull.specs.Found.{HullKeys, FindsHull, Shown}
-
--- points in row order rise
-pub keys-rise : (s : List Point) (keys : List ℕ) → KeysOf s keys → Rising keys
-keys-rise s keys h = record {
-  below = h .below;
-  rises = λ i j l n.
-      let b = pairs-place Before (map unpacked keys) (h .lists .order) i j l (omega (arith, n, length-map keys unpacked)) in
-      unpacked-before (getD keys i 0) (getD keys j 0)
-      (subst (λ p. Before p (unpacked (getD keys j 0))) (unpacked-at keys i (omega arith))
-      (subst (λ q. Before (at-place i) q) (unpacked-at keys j n) b));
-}
-  where
-    at-place : ℕ → Point
-    at-place i = point (map unpacked keys) i
+use Rattle.hull.specs.Within.{MoreMissing, withinRows, WithinPromise, HasMore, HullKeys, FindsHull}
 
 room-enough : (room : List ℤ) (n : ℕ) → (TooSmall room n → ⊥) → n ≤ length room / 2
 room-enough room n h = either (lt-or-le (length room / 2) n) (λ l. absurd (h l)) (λ l. l)
@@ -52,30 +44,33 @@ abbrev hulled-answer : ℕ → ℕ → ℕ → ℕ → Hulled
 hulled-answer number place n count = record { number = number; place = place; points = n; corners = count }
 
 -- the rows after those of the list
-abbrev roomRows : List ℤ → List ℤ → List ℤ → Table
-roomRows list ordered corners =
-    5 when Whole (TooSmall ordered (length (points list))) else 6 when Whole (FewerThanCorners (points list) corners) else accepted
+abbrev missingRow : List ℤ → ℕ → Table
+missingRow list limit = 7 when Whole (MoreMissing (points list) limit) else accepted
 
-module _ (list ordered corners : List ℤ) (keys stack : List ℕ) where
+abbrev roomRows : List ℤ → List ℤ → List ℤ → Table → Table
+roomRows list ordered corners later =
+    5 when Whole (TooSmall ordered (length (points list))) else 6 when Whole (FewerThanCorners (points list) corners) else later
+
+module _ (list ordered corners : List ℤ) (limit : ℕ) (keys stack : List ℕ) where
   pub find-declined : (number place count : ℕ) → (number ≡ 0 → ⊥) → Finds list (ordered-answer number place count) keys
-      → FindsHull list ordered corners (hulled-answer number place 0 0) keys stack
+      → FindsHull list ordered corners limit (hulled-answer number place 0 0) keys stack
   find-declined zero place count n f = absurd (n refl)
   find-declined (suc number) place count n f = record {
-    gives = declined-before (listRows list accepted) (roomRows list ordered corners) number place (f .gives);
+    gives = declined-before (listRows list accepted) (roomRows list ordered corners (missingRow list limit)) number place (f .gives);
     result = (refl, refl);
   }
 
   module _ {answer : Ordered} (f : FoundKeys list answer keys) where
-    later : (n i : ℕ) → Gives (roomRows list ordered corners) n i → Gives (hullRows list ordered corners accepted) n i
-    later n i g = passed-before (listRows list accepted) (roomRows list ordered corners) (tt, (tt, (tt, (tt, tt)))) (answer .place) n i (f .passed) g
+    later : (n i : ℕ) → Gives (roomRows list ordered corners (missingRow list limit)) n i → Gives (withinRows list ordered corners limit) n i
+    later n i g = passed-before (listRows list accepted) (roomRows list ordered corners (missingRow list limit)) (tt, (tt, (tt, (tt, tt)))) (answer .place) n i (f .passed) g
 
-    pub find-ordered-small : TooSmall ordered (answer .points) → FindsHull list ordered corners (hulled-answer 5 0 0 0) keys stack
+    pub find-ordered-small : TooSmall ordered (answer .points) → FindsHull list ordered corners limit (hulled-answer 5 0 0 0) keys stack
     find-ordered-small small = record {
       gives = later 5 0 (inl (refl, whole-first (subst (TooSmall ordered) (f .all) small)));
       result = (refl, refl);
     }
 
-    module _ (wide : answer .points ≤ length ordered / 2) {r : ℕ} (h : Cornered (take (answer .points) keys) stack r) where
+    module _ {r : ℕ} (h : Cornered (take (answer .points) keys) stack r) where
       listed : CornerList (points list) (map unpacked (take r stack))
       listed = corner-list-same (map unpacked (take (answer .points) keys)) (points list)
           ((λ p m. f .keys-of .lists .only p m), (λ p m. f .keys-of .lists .every p m))
@@ -84,71 +79,106 @@ module _ (list ordered corners : List ℤ) (keys stack : List ℕ) where
       long : length (map unpacked (take r stack)) ≡ r
       long = length-map (take r stack) unpacked ∙ length-take-le r stack (h .few)
 
-      room-later : (n i : ℕ) → Gives (6 when Whole (FewerThanCorners (points list) corners) else accepted) n i
-          → Gives (hullRows list ordered corners accepted) n i
-      room-later n i g = later n i (inr (whole-never (λ small. omega (arith, small, wide, f .all)), g))
+      pub corners-listed : PackedCorners (take r stack)
+      corners-listed = record { below = h .below; listed = corner-list-of-some (map unpacked (take r stack)) .1 (points list, listed) }
 
-      pub find-corners-small : TooSmall corners r → FindsHull list ordered corners (hulled-answer 6 0 0 0) keys stack
-      find-corners-small small = record {
-        gives = room-later 6 0 (inl (
-          refl,
-          whole-first (record {
-            corners = map unpacked (take r stack);
-            listed = listed;
-            small = subst (TooSmall corners) (sym long) small;
-          }),
-        ));
-        result = (refl, refl);
-      }
+      -- the lattice points of the hull are the points and the missing points
+      counted : (l m : List Point) → Lists (HullOf (take r stack)) l → MissingList (points list) m → length l ≡ answer .points + length m
+      counted l m all missing =
+          let hull = hull-of-corners (points list) (map unpacked (take r stack)) listed in
+          let split = missing-count (points list) l (map unpacked (take (answer .points) keys)) m
+          (lists-same (HullOf (take r stack)) (InHull (Of (points list))) (λ p. hull p .1) (λ p. hull p .0) l all) (f .keys-of .lists) missing in
+          omega (arith, split, length-map (take (answer .points) keys) unpacked, f .long)
 
-      pub find-found : r ≤ length corners / 2 → FindsHull list ordered corners (hulled-answer 0 0 (answer .points) r) keys stack
-      find-found room = record {
-        gives = room-later 0 0 (inr (
-          whole-never (λ w. omega (
-            arith,
-            room,
-            long,
-            w .small,
-            ap length (corner-list-unique (points list) (w .corners) (map unpacked (take r stack)) (w .listed) listed),
-          )),
-          (refl, refl),
-        ));
-        result = record {
-          points = f .all;
-          keys-long = f .inside;
-          keys-of = f .keys-of;
-          stack-long = h .few;
-          stack-below = h .below;
-          corner = listed;
-          ordered-room = λ small. omega (arith, small, wide);
-          corner-room = λ small. omega (arith, small, room);
-        };
-      }
+      module _ (wide : answer .points ≤ length ordered / 2) where
+        room-later : (n i : ℕ) → Gives (6 when Whole (FewerThanCorners (points list) corners) else missingRow list limit) n i
+            → Gives (withinRows list ordered corners limit) n i
+        room-later n i g = later n i (inr (whole-never (λ small. omega (arith, small, wide, f .all)), g))
+
+        pub find-corners-small : TooSmall corners r → FindsHull list ordered corners limit (hulled-answer 6 0 0 0) keys stack
+        find-corners-small small = record {
+          gives = room-later 6 0 (inl (
+            refl,
+            whole-first (record {
+              corners = map unpacked (take r stack);
+              listed = listed;
+              small = subst (TooSmall corners) (sym long) small;
+            }),
+          ));
+          result = (refl, refl);
+        }
+
+        module _ (room : r ≤ length corners / 2) where
+          missing-later : (n i : ℕ) → Gives (missingRow list limit) n i → Gives (withinRows list ordered corners limit) n i
+          missing-later n i g = room-later n i (inr (
+            whole-never (λ w. omega (
+              arith,
+              room,
+              long,
+              w .small,
+              ap length (corner-list-unique (points list) (w .corners) (map unpacked (take r stack)) (w .listed) listed),
+            )),
+            g,
+          ))
+
+          pub find-missing-small : HasMore (take r stack) (answer .points + limit) → FindsHull list ordered corners limit (hulled-answer 7 0 0 0) keys stack
+          find-missing-small more = record {
+            gives = missing-later 7 0 (inl (
+              refl,
+              whole-first (let m = missing-list-exists (points list) in record {
+                missing = m .0;
+                listed = m .1;
+                more = omega (arith, more .2, counted (more .0) (m .0) (more .1) (m .1));
+              }),
+            ));
+            result = (refl, refl);
+          }
+
+          pub find-found : (HasMore (take r stack) (answer .points + limit) → ⊥)
+              → FindsHull list ordered corners limit (hulled-answer 0 0 (answer .points) r) keys stack
+          find-found enough = record {
+            gives = missing-later 0 0 (inr (
+              whole-never (λ w. let l = hull-list-exists (map unpacked (take r stack)) in
+                  enough (l .0, l .1, omega (arith, w .more, counted (l .0) (w .missing) (l .1) (w .listed)))),
+              (refl, refl),
+            ));
+            result = record {
+              points = f .all;
+              keys-long = f .inside;
+              keys-of = f .keys-of;
+              stack-long = h .few;
+              stack-below = h .below;
+              corner = listed;
+              ordered-room = λ small. omega (arith, small, wide);
+              corner-room = λ small. omega (arith, small, room);
+            };
+          }
 
   -- ---- the rooms written
-  pub shown-points : (n count : ℕ) → HullKeys (points list) ordered corners n count keys stack → Shown (take n keys) ordered
+  pub shown-points : (n count : ℕ) → HullKeys (points list) ordered corners n count keys stack → Below (take n keys) × (2 * length (take n keys) ≤ length ordered)
   shown-points n count h =
       (h .keys-of .below, omega (arith, length-take-le n keys (h .keys-long), room-enough ordered n (h .ordered-room)))
 
-  pub shown-corners : (n count : ℕ) → HullKeys (points list) ordered corners n count keys stack → Shown (take count stack) corners
+  pub shown-corners : (n count : ℕ) → HullKeys (points list) ordered corners n count keys stack
+      → Below (take count stack) × (2 * length (take count stack) ≤ length corners)
   shown-corners n count h =
       (h .stack-below, omega (arith, length-take-le count stack (h .stack-long), room-enough corners count (h .corner-room)))
 
-  pub hull-declined : (number place n count : ℕ) → (number ≡ 0 → ⊥) → FindsHull list ordered corners (hulled-answer number place n count) keys stack
-      → HullPromise list ordered corners (hulled-answer number place n count) ordered corners
-  hull-declined zero place n count e f = absurd (e refl)
-  hull-declined (suc number) place n count e f = record { gives = f .gives; result = (f .result .0, f .result .1, refl, refl) }
+  pub within-declined : (number place n count : ℕ) → (number ≡ 0 → ⊥) → FindsHull list ordered corners limit (hulled-answer number place n count) keys stack
+      → WithinPromise list ordered corners limit (hulled-answer number place n count) ordered corners
+  within-declined zero place n count e f = absurd (e refl)
+  within-declined (suc number) place n count e f = record { gives = f .gives; result = (f .result .0, f .result .1, refl, refl) }
 
-  pub accepted-keys : (number place n count : ℕ) → number ≡ 0 → FindsHull list ordered corners (hulled-answer number place n count) keys stack
+  pub accepted-keys : (number place n count : ℕ) → number ≡ 0 → FindsHull list ordered corners limit (hulled-answer number place n count) keys stack
       → HullKeys (points list) ordered corners n count keys stack
   accepted-keys zero place n count e f = f .result
   accepted-keys (suc number) place n count e f = absurd (omega (arith, e))
 
-  pub hull-done : (number place n count : ℕ) → number ≡ 0 → FindsHull list ordered corners (hulled-answer number place n count) keys stack
+  pub within-done : (number place n count : ℕ) → number ≡ 0 → FindsHull list ordered corners limit (hulled-answer number place n count) keys stack
       → (ordered′ corners′ : List ℤ) → (ordered′ ≡ holding (map unpacked (take n keys)) ordered) × (corners′ ≡ holding (map unpacked (take count stack)) corners)
-      → HullPromise list ordered corners (hulled-answer number place n count) ordered′ corners′
-  hull-done (suc number) place n count z f ordered′ corners′ stand = absurd (omega (arith, z))
-  hull-done zero place n count z f ordered′ corners′ stand = record {
+      → WithinPromise list ordered corners limit (hulled-answer number place n count) ordered′ corners′
+  within-done (suc number) place n count z f ordered′ corners′ stand = absurd (omega (arith, z))
+  within-done zero place n count z f ordered′ corners′ stand = record {
     gives = f .gives;
     result = record {
       in-order = map unpacked (take n keys);
@@ -164,7 +194,40 @@ module _ (list ordered corners : List ℤ) (keys stack : List ℕ) where
 
 -- ---- an accepted list passes rows 1 to 4
 pub hull-passes : (list ordered corners : List ℤ) (place : ℕ) → Gives (hullRows list ordered corners accepted) 0 place → Passes list
-hull-passes list ordered corners place g = list-passes list (roomRows list ordered corners) place g
+hull-passes list ordered corners place g = list-passes list (roomRows list ordered corners accepted) place g
+
+-- ---- a hull's lattice points beside a bound
+pub none-more : (corners : List ℕ) → PackedCorners corners → (n : ℕ) → cells ≤ n → HasMore corners n → ⊥
+none-more corners h n large more = omega (arith, large, more .2, lists-small (HullOf corners) (packed-hull-range corners (h .below)) (more .0) (more .1))
+
+pub tells-more : (corners : List ℕ) (count n : ℕ) → CountOf (HullOf corners) count → Tells (ltb n count) (HasMore corners n)
+tells-more corners count n c = by-test (ltb n count) refl
+  where
+    by-test : (t : Bool) → ltb n count ≡ t → Tells t (HasMore corners n)
+    by-test true e = (c .0, c .1, omega (arith, ltb-true n count e, c .2))
+    by-test false e = λ more. omega (arith, ltb-false n count e, c .2, more .2, ap length (lists-unique (HullOf corners) (more .0) (c .0) (more .1) (c .1)))
+
+-- ---- no limit: no grain has as many missing points as the range has points
+few-missing : (list : List ℤ) → Passes list → (m : List Point) → MissingList (points list) m → length m ≤ cells
+few-missing list passes m l = lists-small (Missing (points list)) (λ p h. hull-in-range (Of (points list)) (λ q i. all-in InRange (points list) (passes .range) q i) p (h .within)) m l
+
+pub without-limit : (list ordered corners : List ℤ) (limit : ℕ) (answer : Hulled) (ordered′ corners′ : List ℤ) → cells ≤ limit
+    → WithinPromise list ordered corners limit answer ordered′ corners′ → HullPromise list ordered corners answer ordered′ corners′
+without-limit list ordered corners limit answer ordered′ corners′ large h = record {
+  gives = by-rows (first-or-later (hullRows list ordered corners accepted) (missingRow list limit) (tt, (tt, (tt, (tt, (tt, (tt, tt)))))) (answer .number) (answer .place) (h .gives));
+  result = h .result;
+}
+  where
+    by-rows : ((answer .number ≡ 0 → ⊥) × Gives (hullRows list ordered corners accepted) (answer .number) (answer .place))
+        ⊎ (Gives (hullRows list ordered corners accepted) 0 0 × Gives (missingRow list limit) (answer .number) (answer .place))
+        → Gives (hullRows list ordered corners accepted) (answer .number) (answer .place)
+    by-rows (inl g) = g .1
+    by-rows (inr (g, inl (e, w))) =
+        let more = w .here .1 in
+        absurd (omega (arith, large, more .more, few-missing list (hull-passes list ordered corners 0 g) (more .missing) (more .listed)))
+    by-rows (inr (g, inr (never, (e, d)))) =
+        subst (λ n. Gives (hullRows list ordered corners accepted) n (answer .place)) (sym e)
+        (subst (λ i. Gives (hullRows list ordered corners accepted) 0 i) (sym d) g)
 
 -- ---- any two outcomes coincide
 pub hulls-equal : (s : List Point) (ordered corners : List ℤ) (n m count total : ℕ) (ordered′ ordered″ corners′ corners″ : List ℤ)
@@ -197,6 +260,6 @@ hull-pinned list ordered corners a b ordered′ ordered″ corners′ corners″
     ((λ i. record { number = e .0 i; place = e .1 i; points = r .0 i; corners = r .1 i }), r .2, r .3)
 
 -- the same of an equal answer
-pub find-as : {list ordered corners : List ℤ} {keys stack : List ℕ} {a b : Hulled} → a ≡ b → FindsHull list ordered corners b keys stack
-    → FindsHull list ordered corners a keys stack
-find-as {list} {ordered} {corners} {keys} {stack} e h = subst (λ r. FindsHull list ordered corners r keys stack) (sym e) h
+pub find-as : {list ordered corners : List ℤ} {limit : ℕ} {keys stack : List ℕ} {a b : Hulled} → a ≡ b → FindsHull list ordered corners limit b keys stack
+    → FindsHull list ordered corners limit a keys stack
+find-as {list} {ordered} {corners} {limit} {keys} {stack} e h = subst (λ r. FindsHull list ordered corners limit r keys stack) (sym e) h

@@ -1,6 +1,3 @@
--- Laws of the scan as the code runs it.
-pub mod Popping
-pub mod Ways
-pub mod Rows
-pub mod Climbing
+-- From what is found to what Hull promises, and what its rooms hold.
 pub mod Hulling
+pub mod Standing

@@ -1,4 +1,3 @@
--- What Hull promises, and what its scan does to a stack of packed points.
-pub mod Scanning
+-- What Hull promises, and what comes of a list where the missing points are limited.
 pub mod Hull
-pub mod Found
+pub mod Within

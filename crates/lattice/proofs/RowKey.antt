@@ -5,11 +5,11 @@ use mathlib.Core.Logic.{inl, inr}
 use mathlib.Core.List.{List, [], _∷_}
 use Prim.Native.Nat.{ℕ}
 use lib.IntN.{ℤ, pos, negsuc, negℤ, _+ℤ_, _-ℤ_}
-use Rattle.whole.proofs.Whole.{quote, _≤ᶻ_, _<ᶻ_, Positive, NonNegative, gap≤, gap<, _⊞_, _⊠_, _⋆≡_, linear≤, linear<, linear⊥, Sign, below, nought, above, sign, difference-zero, positive-by-products}
+use Rattle.whole.proofs.Whole.{quote, _≤ᶻ_, _<ᶻ_, Positive, NonNegative, gap≤, gap<, _⊞_, _⊠_, _⋆≡_, linear≤, linear<, linear⊥, Sign, below, nought, above, sign, le-or-lt, le-of-lt, product-positive, difference-zero, positive-by-products}
 use Rattle.lattice.specs.Point.{Point, least, greatest, InRange, In, Before, row, column}
 use Rattle.lattice.specs.Hull.{InHull, Of}
 use Rattle.lattice.proofs.Turn.{coordinates, linear, Left, three-vectors}
-use Rattle.lattice.proofs.Lists.{all-in}
+use Rattle.lattice.proofs.Lists.{either, all-in}
 use Rattle.lattice.proofs.HalfPlane.{strict-half-plane}
 use Rattle.lattice.proofs.HullLaws.{hull-of-few}
 use Rattle.lattice.proofs.Reach.{reach, reaches}
@@ -107,6 +107,26 @@ turn-transitive o a b c ha hb hc h g =
     up : (q : Point) → Before o q → In q (o ∷ a ∷ b ∷ c ∷ []) → Positive (keyBy K q -ℤ keyBy K o)
     up q k m =
         linear< (K ∷ coordinates (o ∷ q ∷ [])) (gap< (list-order four .1 .rises o q (inl refl) m k)) (search quote depth 20) tt
+
+-- of four points that turn left one after the other, the first before the third, the third is after the second or after the fourth
+pub no-valley : (o a b c : Point) → Before o b → (Before a b → ⊥) → (Before c b → ⊥) → Left o a b → Left o b c → Left a b c → ⊥
+no-valley o a b c h f g u v w =
+    linear⊥ (K ∷ coordinates (o ∷ a ∷ b ∷ c ∷ []))
+    (gap< (product-positive up w) ⊞ gap≤ (from a f (inr (inl refl))) ⊠ gap≤ (le-of-lt v) ⊞ gap≤ (from c g (inr (inr (inr (inl refl))))) ⊠ gap≤ (le-of-lt u))
+    (search quote depth 20 fits 4000) tt
+  where
+    four : List Point
+    four = o ∷ a ∷ b ∷ c ∷ []
+
+    K : ℤ
+    K = list-order four .0
+
+    up : Positive (keyBy K b -ℤ keyBy K o)
+    up =
+        linear< (K ∷ coordinates (o ∷ b ∷ [])) (gap< (list-order four .1 .rises o b (inl refl) (inr (inr (inl refl))) h)) (search quote depth 20) tt
+
+    from : (q : Point) → (Before q b → ⊥) → In q (o ∷ a ∷ b ∷ c ∷ []) → keyBy K b ≤ᶻ keyBy K q
+    from q n m = either (le-or-lt (keyBy K b) (keyBy K q)) (λ k. k) (λ k. absurd (n (list-order four .1 .follows q b m (inr (inr (inl refl))) k)))
 
 -- ---- row order and the hull: what all of S is after, the hull is after; and before
 pub hull-after : (S : Point → Type 0) (t p : Point) → ((q : Point) → S q → Before t q) → InHull S p → Before t p

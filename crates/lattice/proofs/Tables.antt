@@ -1,7 +1,7 @@
 -- One table of refusals behind another: a call that looks at more rows after those of a call that it contains; and what a list is like
 -- that no row refuses. Assumes nothing.
-use mathlib.Core.Path.{_≡_, refl, sym, subst}
-use mathlib.Core.Logic.{inl, inr}
+use mathlib.Core.Path.{_≡_, refl, sym, subst, _∙_}
+use mathlib.Core.Logic.{_⊎_, inl, inr}
 use mathlib.Core.List.{List}
 use Prim.Native.Nat.{ℕ, suc, _≤_}
 use native.Mathlib.Omega.{arith}
@@ -44,6 +44,32 @@ passed-before accepted later m i n j h g = g
 passed-before (k when P else t) later m i n j (inl h) g = absurd (unnumbered k (h .0) (m .0))
 passed-before (k when P else t) later m i n j (inr h) g = inr (h .0, passed-before t later (m .1) i n j (h .1) g)
 
+-- both decline by the first rows, or these give nothing and the later rows decide
+pub first-or-later : (t later : Table) → Numbered t → (n i : ℕ) → Gives (t then later) n i
+    → ((n ≡ 0 → ⊥) × Gives t n i) ⊎ (Gives t 0 0 × Gives later n i)
+first-or-later accepted later m n i h = inr ((refl, refl), h)
+first-or-later (k when P else t) later m n i (inl h) = inl ((λ e. unnumbered k (sym e ∙ h .0) (m .0)), inl h)
+first-or-later (k when P else t) later m n i (inr (passes, h)) = behind (first-or-later t later (m .1) n i h)
+  where
+    behind : ((n ≡ 0 → ⊥) × Gives t n i) ⊎ (Gives t 0 0 × Gives later n i)
+        → ((n ≡ 0 → ⊥) × Gives (k when P else t) n i) ⊎ (Gives (k when P else t) 0 0 × Gives later n i)
+    behind (inl g) = inl (g .0, inr (passes, g .1))
+    behind (inr g) = inr (inr (passes, g .0), g .1)
+
+-- where both accept, the first rows give nothing
+pub both-accept : (t later : Table) → Numbered t → (i : ℕ) → Gives (t then later) 0 i → Gives t 0 0 × Gives later 0 i
+both-accept t later m i h = by-rows (first-or-later t later m 0 i h)
+  where
+    by-rows : ((_≡_ {A = ℕ} 0 0 → ⊥) × Gives t 0 i) ⊎ (Gives t 0 0 × Gives later 0 i) → Gives t 0 0 × Gives later 0 i
+    by-rows (inl g) = absurd (g .0 refl)
+    by-rows (inr g) = g
+
+-- other later rows that give the same
+pub other-later : (t later other : Table) → ((n i : ℕ) → Gives later n i → Gives other n i) → (n i : ℕ) → Gives (t then later) n i → Gives (t then other) n i
+other-later accepted later other f n i h = f n i h
+other-later (k when P else t) later other f n i (inl h) = inl h
+other-later (k when P else t) later other f n i (inr h) = inr (h .0, other-later t later other f n i (h .1))
+
 -- ---- a row for the call as a whole
 pub whole-first : {P : Type 0} → P → First (Whole P) 0
 whole-first p = record { here = (refl, p); earlier = λ j h _. nowhere j h }
@@ -57,6 +83,9 @@ pub accepted-place : (t : Table) → Numbered t → (i : ℕ) → Gives t 0 i �
 accepted-place accepted m i h = h .1
 accepted-place (k when P else t) m i (inl h) = absurd (unnumbered k (h .0) (m .0))
 accepted-place (k when P else t) m i (inr h) = accepted-place t (m .1) i (h .1)
+
+pub place-zero : (t : Table) → Numbered t → (i : ℕ) → Gives t 0 i → Gives t 0 0
+place-zero t m i h = subst (Gives t 0) (accepted-place t m i h) h
 
 -- rows 1 to 4 of a list: an even length, at most 4,096 points, each in range, each once
 pub record Passes (a : List ℤ) : Type 0 where

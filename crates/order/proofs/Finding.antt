@@ -1,24 +1,21 @@
 -- What each way out of `find` tells: the refusals 1 to 4 of a list, or its points in row order. Assumes nothing.
 use mathlib.Core.Path.{_≡_, refl, sym, subst}
 use mathlib.Core.Logic.{inl, inr}
-use mathlib.Core.List.{List, map}
+use mathlib.Core.List.{List}
 use Prim.Native.Nat.{ℕ, _≤_, _<_}
 use native.Mathlib.Omega.{arith}
 use lib.ListN.{length, take}
-use lib.Seq.{length-take-le}
 use lib.IntN.{ℤ}
-use Rattle.lattice.specs.Point.{InRange, most, points, All, Lists}
-use Rattle.lattice.specs.Hull.{Of}
+use Rattle.lattice.specs.Point.{InRange, most, points, All}
 use Rattle.lattice.specs.Refusal.{accepted, Gives, AtPoint, Repeats, Odd, OutOfRange, listRows, _when_else_}
 use Rattle.lattice.proofs.Refusals.{within-range}
 use Rattle.lattice.proofs.Tables.{whole-first, whole-never, none-out-of-range}
-use Rattle.packed.specs.Packed.{unpacked}
-use Rattle.sort.specs.Words.{keyOf, Marked}
+use Rattle.packed.specs.Keys.{KeysOf}
+use Rattle.range.specs.First.{FirstOutside}
+use Rattle.range.proofs.Passing.{first-here, never-below}
+use Rattle.arrange.specs.Arranging.{Arranges}
 use Rattle.order.specs.declared.Ordered.{Ordered}
-use Rattle.order.specs.First.{FirstOutside}
-use Rattle.order.specs.Keys.{Below, WordsOf, Arranged, Finds}
-use Rattle.order.proofs.Passing.{first-here, never-below}
-use Rattle.order.proofs.Sorting.{words-marked, first-repeat, no-repeat, keys-lists, keys-below}
+use Rattle.order.specs.Found.{Finds}
 
 pub all-in-range : (list : List ℤ) (r : ℕ) → FirstOutside list r → length (points list) ≤ r → All InRange (points list)
 all-in-range list r f l = within-range (points list) (never-below _ (AtPoint OutOfRange (points list)) r f (λ j p. p .0) l)
@@ -43,47 +40,25 @@ module _ (list : List ℤ) (keys : List ℕ) where
         result = refl;
       }
 
-      module _ (range : All InRange (points list)) (words : List ℕ) (m : WordsOf list words) (n : ℕ) (full : n ≡ length (points list))
-          (room : n ≤ length words) where
-        small : n ≤ 4096
-        small = omega (arith, full, few)
+      module _ (range : All InRange (points list)) (r : ℕ) (a : Arranges (points list) r keys) where
+        inside : (j : ℕ) → AtPoint OutOfRange (points list) j → ⊥
+        inside = none-out-of-range (points list) range
 
-        pub marks : Marked (take n words)
-        marks = words-marked list range words m n full small room
+        pub finds-repeat : r < length (points list) → Finds list (record { number = 4; place = r; points = 0 }) keys
+        finds-repeat h = record {
+          gives = behind 4 r (inr (inside, inl (refl, first-here _ (Repeats (points list)) r (a .repeat) h)));
+          result = refl;
+        }
 
-        module _ (place : ℕ) (a : Arranged (take n words) place keys) where
-          inside : (j : ℕ) → AtPoint OutOfRange (points list) j → ⊥
-          inside = none-out-of-range (points list) range
-
-          pub finds-repeat : place < 4096 → Finds list (record { number = 4; place = place; points = 0 }) keys
-          finds-repeat h = record {
-            gives = behind 4 place (inr (
-              inside,
-              inl (
-                refl,
-                first-repeat list range words m n full small room (a .front) (a .sorts) place (a .repeat) h,
-              ),
-            ));
-            result = refl;
-          }
-
-          front-keys : take n keys ≡ map keyOf (a .front)
-          front-keys = subst (λ m. take m keys ≡ map keyOf (a .front)) (length-take-le n words room) (a .stand)
-
-          pub finds-all : 4096 ≤ place → n ≤ length keys → Finds list (record { number = 0; place = 0; points = n }) keys
-          finds-all h wide = record {
-            gives = behind 0 0 (inr (inside, inr (no-repeat list range words m n full small room (a .front) (a .sorts) place (a .repeat) h, (refl, refl))));
-            result = (
-              full,
-              wide,
-              record {
-                below = subst Below (sym front-keys)
-                    (keys-below list range words m n full small room (a .front) (a .sorts) place (a .repeat) h);
-                lists = subst (λ l. Lists (Of (points list)) (map unpacked l)) (sym front-keys)
-                    (keys-lists list range words m n full small room (a .front) (a .sorts) place (a .repeat) h);
-              },
-            );
-          }
+        pub finds-all : (n : ℕ) → n ≡ length (points list) → n ≤ r → n ≤ length keys → Finds list (record { number = 0; place = 0; points = n }) keys
+        finds-all n full h wide = record {
+          gives = behind 0 0 (inr (inside, inr (never-below _ (Repeats (points list)) r (a .repeat) (λ j p. p .0) (omega (arith, full, h)), (refl, refl))));
+          result = (
+            full,
+            wide,
+            subst (λ m. KeysOf (points list) (take m keys)) (sym full) (a .order (omega (arith, a .repeat .upto, full, h))),
+          );
+        }
 
 -- the same of an equal answer
 pub finds-as : {list : List ℤ} {keys : List ℕ} {a b : Ordered} → a ≡ b → Finds list b keys → Finds list a keys

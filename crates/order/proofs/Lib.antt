@@ -1,14 +1,4 @@
--- Laws of the loops of this crate, and of points in row order as the code holds them.
-pub mod Passing
-pub mod Parts
-pub mod Halving
-pub mod Marking
+-- Laws of the loop that writes a room, and from what is found to what Order promises.
 pub mod Writing
-pub mod InOrder
-pub mod RowLaws
-pub mod Pinned
-pub mod Sorting
-pub mod Differing
-pub mod Filling
 pub mod Finding
 pub mod Ordering

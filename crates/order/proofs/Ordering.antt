@@ -15,9 +15,11 @@ use Rattle.lattice.proofs.Refusals.{gives-unique}
 use Rattle.lattice.proofs.SameMembers.{lists-unique}
 use Rattle.lattice.proofs.Tables.{declined-before, passed-before, whole-first, whole-never, list-passes}
 use Rattle.packed.specs.Packed.{unpacked}
+use Rattle.packed.specs.Keys.{KeysOf}
+use Rattle.arrange.specs.Space.{Measured}
 use Rattle.order.specs.declared.Ordered.{Ordered}
 use Rattle.order.specs.Order.{orderRows, OrderResult, OrderPromise}
-use Rattle.order.specs.Keys.{KeysOf, Measured, FindResult, Finds}
+use Rattle.order.specs.Found.{FindResult, Finds}
 
 -- what `find` tells of an accepted list: its points stand packed, in row order, at the front of keys
 pub record FoundKeys (list : List ℤ) (answer : Ordered) (keys : List ℕ) : Type 0 where

@@ -1,5 +1,3 @@
--- What Order, Row ends and Row promise, and how the code holds points in row order.
+-- What Order promises, and what is known of a list before its room is written.
 pub mod Order
-pub mod Row
-pub mod Keys
-pub mod First
+pub mod Found

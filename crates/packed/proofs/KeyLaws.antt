@@ -7,8 +7,12 @@ use lib.ListN.{length, getD, length-map}
 use Rattle.lattice.specs.Point.{Point, InRange, point, In, All, Pairs, Lists, Before}
 use Rattle.lattice.proofs.Lists.{in-all}
 use Rattle.lattice.proofs.Places.{nowhere, place-in, in-place, all-place, pairs-place, place-pairs}
+use Rattle.lattice.specs.Hull.{Of}
+use Rattle.lattice.proofs.Frame.{hull-in-range}
 use Rattle.packed.specs.Packed.{cells, packed, unpacked}
-use Rattle.packed.proofs.RowOrder.{before-unpacked, packed-below, before-packed}
+use Rattle.packed.specs.Keys.{Below}
+use Rattle.packed.specs.Corners.{HullOf}
+use Rattle.packed.proofs.RowOrder.{before-unpacked, packed-below, before-packed, unpacked-in-range}
 
 pub unpacked-at : (keys : List ℕ) (i : ℕ) → i < length keys → point (map unpacked keys) i ≡ unpacked (getD keys i 0)
 unpacked-at [] i h = nowhere i h
@@ -64,3 +68,8 @@ lists-small P f l h = by-length (length l) refl
     by-length (suc n) e =
         let k : n < length l = omega arith in
         omega (arith, rank l (h .order) range n k, packed-below (point l n) (all-place InRange l range n k))
+
+-- ---- the hull of packed corners is in range
+pub packed-hull-range : (corners : List ℕ) → Below corners → (p : Point) → HullOf corners p → InRange p
+packed-hull-range corners below = hull-in-range (Of (map unpacked corners)) (λ q m. let r = in-unpacked corners q m in
+    subst InRange (sym (r .2)) (unpacked-in-range (getD corners (r .0) 0) (below (r .0) (r .1))))

@@ -5,3 +5,5 @@ pub mod Tests
 pub mod RowOrder
 pub mod KeyLaws
 pub mod Reading
+pub mod KeysOf
+pub mod Corners

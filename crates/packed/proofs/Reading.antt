@@ -26,6 +26,10 @@ pub read-point : (list : List ℤ) (i : ℕ) → SFits w32 (column-at list i) �
 read-point list i f g h =
     point-equal (read-back (column-at list i) f) (read-back (row-at list i) g) ∙ sym (points-at list i h)
 
+pub read-column : (list : List ℤ) (i : ℕ) → SFits w32 (column-at list i) → i < length (points list)
+    → toZ w32 (ofZ w32 (column-at list i)) ≡ (point (points list) i) .x
+read-column list i g h = read-back (column-at list i) g ∙ ap (λ p. p .x) (sym (points-at list i h))
+
 pub read-row : (list : List ℤ) (i : ℕ) → SFits w32 (row-at list i) → i < length (points list)
     → toZ w32 (ofZ w32 (row-at list i)) ≡ (point (points list) i) .y
 read-row list i g h = read-back (row-at list i) g ∙ ap (λ p. p .y) (sym (points-at list i h))

@@ -1,11 +1,13 @@
 // Points as the code holds them, each one number below 2^28 in row order, and the turn of three of them.
 ghost use mathlib.Core.Path.{_≡_};
-ghost use Prim.Native.Nat.{_<_};
+ghost use Prim.Native.Nat.{_/_, _%_, _<_};
 ghost use lib.IntN.{pos};
+ghost use lib.ListN.{length, getD};
 ghost use lib.Signed.{_≤ℤ_, ltZ};
-ghost use Rattle.lattice.specs.Point.{least, greatest, InRange};
+ghost use Rattle.lattice.specs.Point.{least, greatest, InRange, points, point};
 ghost use Rattle.lattice.specs.Hull.{turn as turnOf};
 ghost use Rattle.packed.specs.Packed.{Tells, Within, side, cells, moved as movedOf, placed as placedOf, packed as packedOf, unpacked};
+ghost use Rattle.packed.specs.Corners.{keysOf};
 
 // The most points that go in, and the range of a coordinate.
 pub const MOST: usize = 4096;
@@ -13,6 +15,9 @@ pub const MOST: usize = 4096;
 pub const LEAST: i32 = -8192;
 
 pub const GREATEST: i32 = 8191;
+
+// How many points the range has.
+pub const CELLS: usize = 268435456;
 
 // A coordinate is moved by OFFSET to start at 0, and has SIDE values.
 const OFFSET: i32 = 8192;
@@ -59,6 +64,30 @@ pub fn packed(x: i32, y: i32) -> u32
     ensures { λ r. ⌜ (r ≡ packedOf (record { x = x; y = y })) × (r < cells) ⌝ }
 {
     SIDE * moved(y) + moved(x)
+}
+
+// A list is read where it stands: the column and the row of the point at a place, moved to start at 0, and the point, packed.
+pub fn column_at(list: &[i32], i: usize) -> u32
+    requires { ⌜ (i < length (points (now list))) × InRange (point (points (now list)) i) ⌝ }
+    ensures { λ r. ⌜ (r ≡ movedOf ((point (points (now (list .entry))) i) .x)) × (r < side) × (r ≡ getD (keysOf (now (list .entry))) i 0 % side) ⌝ }
+{
+    moved(list[2 * i])
+}
+
+pub fn row_at(list: &[i32], i: usize) -> u32
+    requires { ⌜ (i < length (points (now list))) × InRange (point (points (now list)) i) ⌝ }
+    ensures { λ r. ⌜ (r ≡ movedOf ((point (points (now (list .entry))) i) .y)) × (r < side) × (r ≡ getD (keysOf (now (list .entry))) i 0 / side) ⌝ }
+{
+    moved(list[2 * i + 1])
+}
+
+pub fn key_at(list: &[i32], i: usize) -> u32
+    requires { ⌜ (i < length (points (now list))) × InRange (point (points (now list)) i) ⌝ }
+    ensures { λ r. ⌜ (r ≡ packedOf (point (points (now (list .entry))) i)) × (r < cells) × (r ≡ getD (keysOf (now (list .entry))) i 0) ⌝ }
+{
+    let x = list[2 * i];
+    let y = list[2 * i + 1];
+    packed(x, y)
 }
 
 // Its coordinates.

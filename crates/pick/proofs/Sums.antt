@@ -9,24 +9,43 @@ use lib.ListN.{length, getD, drop, length-map}
 use lib.Seq.{drop-cons}
 use lib.IntN.{ℤ, pos, negsuc, negℤ, natAbs, _+ℤ_, _*ℤ_, _-ℤ_}
 use Rattle.whole.proofs.Whole.{ring, quote, linear≡, _∗≡_, _∔_}
-use Rattle.lattice.specs.Point.{Point, InRange, In}
-use Rattle.lattice.specs.Hull.{Of}
+use Rattle.lattice.specs.Point.{Point, InRange, points, In}
+use Rattle.lattice.specs.Hull.{InHull, Of}
 use Rattle.lattice.proofs.Places.{lt-or-le}
 use Rattle.lattice.proofs.Lists.{either}
 use Rattle.lattice.proofs.MissingLists.{hull-list-exists}
 use Rattle.lattice.proofs.RowLists.{row-order-exists, row-order-length}
 use Rattle.packed.specs.Packed.{side, cells, offset, unpacked}
-use Rattle.packed.specs.Corners.{HullOf, Cornered, CountOf}
+use Rattle.packed.specs.Corners.{HullOf, Cornered, keysOf, Outline, CountOf}
 use Rattle.packed.proofs.KeyLaws.{in-unpacked, lists-small}
 use Rattle.packed.proofs.RowOrder.{unpacked-in-range}
+use Rattle.packed.proofs.KeysOf.{keys-unpacked}
 use Rattle.pick.specs.Pick.{divisor, span, cross, around, area, border, twiceCount}
-use Rattle.pick.specs.Edge.{distance, steps, gain, loss}
+use Rattle.pick.specs.declared.Edges.{Edges}
+use Rattle.pick.specs.Edge.{distance, steps, gain, loss, reached, Small, Adds}
 use Rattle.pick.proofs.Moved.{moved, twice-count-moved}
 use Rattle.pick.proofs.Pick.{pick, one-formula}
 
+-- ---- a corner's column and row, from the corner packed
+column-of : (x y : ℕ) → x < side → (side * y + x) % side ≡ x
+column-of x y h = omega arith
+
+row-of : (x y : ℕ) → x < side → (side * y + x) / side ≡ y
+row-of x y h = omega arith
+
+module _ (ax ay bx by : ℕ) (h : ax < side) (k : bx < side) where
+  pub steps-of : steps (side * ay + ax) (side * by + bx) ≡ divisor (distance ax bx) (distance ay by)
+  steps-of i = divisor (distance (column-of ax ay h i) (column-of bx by k i)) (distance (row-of ax ay h i) (row-of bx by k i))
+
+  pub gain-of : gain (side * ay + ax) (side * by + bx) ≡ ax * by + steps (side * ay + ax) (side * by + bx)
+  gain-of i = column-of ax ay h i * row-of bx by k i + steps (side * ay + ax) (side * by + bx)
+
+  pub loss-of : loss (side * ay + ax) (side * by + bx) ≡ bx * ay
+  loss-of i = column-of bx by k i * row-of ax ay h i
+
 -- ---- no product is large: a column times a row
-pub column-times-row : (a b : ℕ) → b < cells → a % side * (b / side) < cells
-column-times-row a b h = let c : a % side ≤ 16383 = omega arith in omega (arith, h, mul-le-mul-right (b / side) c)
+pub column-times-row : (x y : ℕ) → x < side → y < side → x * y < cells
+column-times-row x y h k = let c : x ≤ 16383 = omega arith in omega (arith, k, mul-le-mul-right y c)
 
 -- ---- an edge
 distance-is : (a b : ℕ) → natAbs (pos b -ℤ pos a) ≡ distance a b
@@ -162,38 +181,70 @@ no-corner f [] before (suc i) h = refl
 no-corner f (a ∷ l) before zero h = absurd (omega (arith, h))
 no-corner f (a ∷ l) before (suc i) h = no-corner f l before i (omega arith)
 
-pub record Summed (corners : List ℕ) (before gained lost i : ℕ) : Type 0 where
+pub record Summed (corners : List ℕ) (s : Edges) (i : ℕ) : Type 0 where
   pub upto : i ≤ length corners
-  pub below : before < cells
-  pub gains : gained + sum gain before (drop i corners) ≡ 2 + total gain corners
-  pub losses : lost + sum loss before (drop i corners) ≡ total loss corners
-  pub few-gained : gained ≤ 2 + i * 8589934592
-  pub few-lost : lost ≤ i * 8589934592
+  pub column : s .column < side
+  pub row : s .row < side
+  pub gains : s .gained + sum gain (reached s) (drop i corners) ≡ 2 + total gain corners
+  pub losses : s .lost + sum loss (reached s) (drop i corners) ≡ total loss corners
+  pub few-gained : s .gained ≤ 2 + i * 8589934592
+  pub few-lost : s .lost ≤ i * 8589934592
 
-module _ (corners : List ℕ) (h : Cornered corners) (some : 0 < length corners) where
-  pub summed-none : Summed corners (getD corners (length corners - 1) 0) 2 0 0
-  summed-none = record {
+module _ {corners : List ℕ} (h : Cornered corners) (some : 0 < length corners) where
+  -- the first edge comes from the last corner
+  pub summed-none : (j : ℕ) → j + 1 ≡ length corners → (column row : ℕ) → column ≡ getD corners j 0 % side → row ≡ getD corners j 0 / side
+      → (s : Edges) → s ≡ record { column = column; row = row; gained = 2; lost = 0 } → Summed corners s 0
+  summed-none j d column row e f s g = subst (λ r. Summed corners r 0) (sym g) record {
     upto = omega arith;
-    below = h .below (length corners - 1) (omega (arith, some));
-    gains = refl;
-    losses = omega arith;
+    column = omega (arith, e);
+    row = omega (arith, f, h .below j (omega (arith, d)));
+    gains = ap (λ n. 2 + sum gain n corners) last;
+    losses = omega (arith, ap (λ n. sum loss n corners) last);
     few-gained = omega arith;
     few-lost = omega arith;
   }
+    where
+      last : side * row + column ≡ getD corners (length corners - 1) 0
+      last =
+          let k : side * row + column ≡ getD corners j 0 = omega (arith, e, f) in
+          let m : j ≡ length corners - 1 = omega (arith, d) in
+          k ∙ ap (λ n. getD corners n 0) m
 
-  module _ (before gained lost i : ℕ) (s : Summed corners before gained lost i) where
-    pub summed-more : i < length corners → (g l : ℕ) → (g ≡ gain before (getD corners i 0)) × (g < 8589934592) → (l ≡ loss before (getD corners i 0)) × (l < 8589934592)
-        → Summed corners (getD corners i 0) (gained + g) (lost + l) (i + 1)
-    summed-more u g l e f = record {
-      upto = omega arith;
-      below = h .below i u;
-      gains = omega (arith, s .gains, e .0, next-corner gain corners before i u);
-      losses = omega (arith, s .losses, f .0, next-corner loss corners before i u);
-      few-gained = omega (arith, s .few-gained, e .1);
-      few-lost = omega (arith, s .few-lost, f .1);
+  module _ {s : Edges} {i : ℕ} (g : Summed corners s i) where
+    pub summed-small : Small s
+    summed-small = record {
+      column = g .column;
+      row = g .row;
+      few-gained = omega (arith, g .few-gained, g .upto, few-corners corners h);
+      few-lost = omega (arith, g .few-lost, g .upto, few-corners corners h);
     }
 
-    pub summed-all : length corners ≤ i → (n : ℕ) × CountOf (HullOf corners) n × (gained ≡ 2 * n + lost)
-    summed-all u =
-        let r = counted corners h some in
-        (r .0, r .1, omega (arith, s .gains, s .losses, r .2, no-corner gain corners before i u, no-corner loss corners before i u))
+    pub summed-more : i < length corners → (corner : ℕ) → corner ≡ getD corners i 0 → (r : Edges) → Adds s corner r → Summed corners r (i + 1)
+    summed-more u corner e r a =
+        let b : Adds s (getD corners i 0) r = subst (λ n. Adds s n r) e a in
+        let w : reached r ≡ getD corners i 0 = omega (arith, b .column, b .row) in record {
+          upto = omega arith;
+          column = omega (arith, b .column);
+          row = omega (arith, b .row, h .below i u);
+          gains = omega (arith, g .gains, b .gains, next-corner gain corners (reached s) i u, ap (λ n. sum gain n (drop (i + 1) corners)) w);
+          losses = omega (arith, g .losses, b .loses, next-corner loss corners (reached s) i u, ap (λ n. sum loss n (drop (i + 1) corners)) w);
+          few-gained = omega (arith, g .few-gained, b .few-gained);
+          few-lost = omega (arith, g .few-lost, b .few-lost);
+        }
+
+    -- past the last corner
+    module _ (u : length corners ≤ i) where
+      whole : (n : ℕ) × CountOf (HullOf corners) n × (s .gained ≡ 2 * n + s .lost)
+      whole =
+          let r = counted corners h some in
+          (r .0, r .1, omega (arith, g .gains, g .losses, r .2, no-corner gain corners (reached s) i u, no-corner loss corners (reached s) i u))
+
+      pub summed-order : s .lost ≤ s .gained
+      summed-order = omega (arith, whole .2)
+
+      pub summed-half : (r : ℕ) → r ≡ (s .gained - s .lost) / 2 → CountOf (HullOf corners) r
+      summed-half r e = let w = whole in (w .1 .0, w .1 .1, omega (arith, e, w .1 .2, w .2))
+
+-- ---- corners as numbers
+pub counted-numbers : {corners : List ℤ} → Outline corners → (r : ℕ) → CountOf (HullOf (keysOf corners)) r → CountOf (InHull (Of (points corners))) r
+counted-numbers {corners} h r n = subst (λ c. CountOf (InHull (Of c)) r) (keys-unpacked corners (h .range)) n

@@ -1,6 +1,8 @@
 -- What the edge from one packed corner to another is worth in Pick's formula, in natural numbers: what it gains and what it loses. Assumes nothing.
-use Prim.Native.Nat.{ℕ, _+_, _-_, _*_, _/_, _%_}
-use Rattle.packed.specs.Packed.{side}
+use mathlib.Core.Path.{_≡_}
+use Prim.Native.Nat.{ℕ, _+_, _-_, _*_, _/_, _%_, _<_}
+use Rattle.packed.specs.Packed.{side, cells}
+use Rattle.pick.specs.declared.Edges.{Edges}
 use Rattle.pick.specs.Pick.{divisor}
 
 -- how far two coordinates are apart
@@ -17,3 +19,22 @@ gain a b = a % side * (b / side) + steps a b
 
 abbrev pub loss : ℕ → ℕ → ℕ
 loss a b = b % side * (a / side)
+
+-- the corner that the edges have come to, packed
+abbrev pub reached : Edges → ℕ
+reached s = side * s .row + s .column
+
+-- sums to which those of an edge can be added; with those of the edge to one corner more
+pub record Small (s : Edges) : Type 0 where
+  pub column : s .column < side
+  pub row : s .row < side
+  pub few-gained : s .gained < 9223372036854775808
+  pub few-lost : s .lost < 9223372036854775808
+
+pub record Adds (s : Edges) (corner : ℕ) (r : Edges) : Type 0 where
+  pub column : r .column ≡ corner % side
+  pub row : r .row ≡ corner / side
+  pub gains : r .gained ≡ s .gained + gain (reached s) corner
+  pub loses : r .lost ≡ s .lost + loss (reached s) corner
+  pub few-gained : r .gained < s .gained + 8589934592
+  pub few-lost : r .lost < s .lost + 8589934592

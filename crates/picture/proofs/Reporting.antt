@@ -18,7 +18,7 @@ use Rattle.lattice.proofs.Frame.{hull-in-range}
 use Rattle.lattice.proofs.Tables.{none-out-of-range, none-repeats}
 use Rattle.lattice.proofs.SameMembers.{lists-unique}
 use Rattle.lattice.proofs.CornerLists.{corner-list-exists, corners-fewer}
-use Rattle.order.specs.Row.{Sound}
+use Rattle.rows.specs.Row.{Sound}
 use Rattle.hull.specs.Hull.{HullResult}
 use Rattle.report.specs.declared.Reported.{Reported}
 use Rattle.report.specs.Report.{FewerThanMissing, reportRows, MissingResult, ReportPromise}

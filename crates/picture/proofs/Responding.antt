@@ -8,7 +8,7 @@ use lib.Seq.{length-take-le}
 use lib.IntN.{ℤ}
 use Rattle.lattice.specs.Point.{most}
 use Rattle.lattice.proofs.Rooms.{holding-length}
-use Rattle.order.specs.Row.{Sound}
+use Rattle.rows.specs.Row.{Sound}
 use Rattle.bitmap.specs.declared.Picture.{Picture}
 use Rattle.bitmap.specs.Picture.{readingOf, listAfter, PicturePromise}
 use Rattle.bitmap.proofs.Accepted.{front, picture-read, picture-refused, picture-points-counted, picture-points-few, picture-points-in-range, picture-points-in-row-order}

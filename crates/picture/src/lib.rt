@@ -1,6 +1,6 @@
 // The answer to a picture: its bytes read, its grain reported, the report or a refusal written as text.
 ghost use Rattle.lattice.specs.Point.{points};
-ghost use Rattle.order.specs.Row.{Sound};
+ghost use Rattle.rows.specs.Row.{Sound};
 ghost use Rattle.picture.specs.Response.{Reports, Writes, ResponsePromise};
 
 // "It has room for 8,192 missing points."

@@ -1,18 +1,16 @@
 -- From what the steps tell to what Rebuild promises, and that the promise pins the outcome. Assumes nothing.
 use mathlib.Core.Path.{_≡_, refl, sym, _∙_, ap, subst}
 use mathlib.Core.Logic.{inl, inr}
-use mathlib.Core.List.{List, map}
-use Prim.Native.Nat.{ℕ, zero, suc, _+_, _-_, _*_, _/_, _≤_, _<_}
+use mathlib.Core.List.{List}
+use Prim.Native.Nat.{ℕ, zero, suc, _+_, _-_, _/_, _≤_, _<_}
 use native.Mathlib.Omega.{arith}
-use lib.ListN.{length, take}
+use lib.ListN.{length}
 use lib.IntN.{ℤ}
-use Rattle.lattice.specs.Point.{Point, most, points, In, All, Pairs, Before, Lists}
+use Rattle.lattice.specs.Point.{Point, most, points, In, Lists}
 use Rattle.lattice.specs.Hull.{InHull, Of, Kept}
 use Rattle.lattice.specs.Refusal.{Table, accepted, Gives, Misplaced, rebuildRows}
 use Rattle.lattice.specs.Room.{holding}
 use Rattle.lattice.proofs.Lists.{either, all-in, all-map}
-use Rattle.lattice.proofs.Numbers.{points-length}
-use Rattle.lattice.proofs.Places.{lt-or-le}
 use Rattle.lattice.proofs.Decide.{yes-or-no, in?, hull?}
 use Rattle.lattice.proofs.Refusals.{gives-unique, within-range}
 use Rattle.lattice.proofs.Tables.{_then_, Numbered, declined-before, passed-before, whole-first, whole-never}
@@ -20,33 +18,12 @@ use Rattle.lattice.proofs.SameMembers.{lists-unique, lists-same}
 use Rattle.lattice.proofs.RowLists.{lists-split}
 use Rattle.lattice.proofs.MissingLists.{kept-list-exists}
 use Rattle.lattice.proofs.Demand.{rebuild-accepts}
-use Rattle.packed.specs.Packed.{unpacked}
-use Rattle.order.specs.Keys.{Below}
-use Rattle.walk.specs.Walk.{Walked}
+use Rattle.packed.specs.Corners.{CountOf}
+use Rattle.walk.specs.Walk.{Walked, Lacking, Puts}
 use Rattle.rebuild.specs.declared.Rebuilt.{Rebuilt}
-use Rattle.rebuild.specs.Rebuild.{inputRows, Results, resultRows, RebuildResult, Outcome, pointRows, rebuildTable, RebuildPromise}
-use Rattle.rebuild.specs.Looking.{Taken, Behind, Looks, Outlines}
-
--- ---- rows that decline, rows that let pass
-module _ (t later : Table) (c m : List Point) (room : List ℤ) where
-  pub outcome-declined : (number place count : ℕ) → (number ≡ 0 → ⊥) → Looks t (record { number = number; place = place; points = count })
-      → Outcome (t then later) c m room (record { number = number; place = place; points = count }) room
-  outcome-declined zero place count n h = absurd (n refl)
-  outcome-declined (suc number) place count n h = record {
-    gives = declined-before t later number place (h .gives);
-    result = (h .uncounted, refl);
-  }
-
-  pub outcome-passed : Numbered t → (place : ℕ) → Gives t 0 place → (answer : Rebuilt) (after : List ℤ) → Outcome later c m room answer after
-      → Outcome (t then later) c m room answer after
-  outcome-passed n place g answer after h = record {
-    gives = passed-before t later n place (answer .number) (answer .place) g (h .gives);
-    result = h .result;
-  }
-
--- the same of an equal answer
-pub outcome-as : {t : Table} {c m : List Point} {room after : List ℤ} {a b : Rebuilt} → a ≡ b → Outcome t c m room b after → Outcome t c m room a after
-outcome-as {t} {c} {m} {room} {after} e h = subst (λ r. Outcome t c m room r after) (sym e) h
+use Rattle.rebuild.specs.Rebuild.{inputRows, Results, resultRows, RebuildResult, pointRows, rebuildTable, RebuildPromise}
+use Rattle.rebuild.specs.Looking.{Taken, Looks, Foreseen}
+use Rattle.rebuild.proofs.Refusing.{answer}
 
 -- ---- lists that pass rows 1 to 3
 taken : (corners missing : List ℤ) (place : ℕ) → Gives (inputRows corners missing accepted) 0 place → Taken corners missing
@@ -55,124 +32,147 @@ taken corners missing place (inr (odd, inl h)) = absurd (omega (arith, h .0))
 taken corners missing place (inr (odd, inr (more, inl h))) = absurd (omega (arith, h .0))
 taken corners missing place (inr (odd, inr (more, inr (corner, inl h)))) = absurd (omega (arith, h .0))
 taken corners missing place (inr (odd, inr (more, inr (corner, inr (missing-point, h))))) = record {
-  few = either (lt-or-le most (length (points corners))) (λ l. absurd (more 0 (refl, l))) (λ l. l);
   corners-range = within-range (points corners) corner;
   missing-range = within-range (points missing) missing-point;
 }
 
 -- ---- corners and missing points that pass rows 8 to 10
-walked : (outline : List ℕ) (missing : List ℤ) → Below outline → (place : ℕ)
-    → Gives (rebuildRows (map unpacked outline) (points missing) accepted) 0 place → Walked outline missing
-walked outline missing below place g =
-    let r = rebuild-accepts (map unpacked outline) (points missing) accepted 0 place g (λ e. omega arith) (λ e. omega arith) (λ e. omega arith) in
+walked : (corners missing : List ℤ) → Taken corners missing → (place : ℕ) → Gives (rebuildRows (points corners) (points missing) accepted) 0 place
+    → Walked corners missing
+walked corners missing t place g =
+    let r = rebuild-accepts (points corners) (points missing) accepted 0 place g (λ e. omega arith) (λ e. omega arith) (λ e. omega arith) in
     record {
-      cornered = record { below = below; listed = r .0 };
+      outline = record { range = t .corners-range; listed = r .0 };
       order = r .1;
-      inside = all-map (λ p. Misplaced (map unpacked outline) p → ⊥) (InHull (Of (map unpacked outline)))
-          (λ p n. either (yes-or-no (hull? (map unpacked outline) p)) (λ h. h) (λ k. absurd (n (inl k)))) (points missing) (r .2);
+      inside = all-map (λ p. Misplaced (points corners) p → ⊥) (InHull (Of (points corners)))
+          (λ p n. either (yes-or-no (hull? (points corners) p)) (λ h. h) (λ k. absurd (n (inl k)))) (points missing) (r .2);
     }
 
 -- ---- what results
-module _ (c m : List Point) (order : Pairs Before m) (inside : All (InHull (Of c)) m) (l : List Point) (h : Lists (InHull (Of c)) l) where
+module _ {corners missing : List ℤ} (w : Walked corners missing) {count : ℕ} (n : CountOf (InHull (Of (points corners))) count) where
+  abbrev c : List Point
+  c = points corners
+
+  abbrev m : List Point
+  m = points missing
+
   -- the lattice points of the hull are the missing points and those that are kept
-  pub result-count : (s : List Point) → Lists (Kept c m) s → length l ≡ length m + length s
+  result-count : (s : List Point) → Lists (Kept c m) s → count ≡ length m + length s
   result-count s k =
-      lists-split (InHull (Of c)) (Of m) (λ p. in? p m) l m s h
-      (record { every = λ p i. i .1; only = λ p i. (all-in (InHull (Of c)) m inside p i, i); order = order })
+      n .2
+      ∙ lists-split (InHull (Of c)) (Of m) (λ p. in? p m) (n .0) m s (n .1)
+      (record { every = λ p i. i .1; only = λ p i. (all-in (InHull (Of c)) m (w .inside) p i, i); order = w .order })
       (lists-same (Kept c m) (λ p. InHull (Of c) p × (In p m → ⊥)) (λ p i. (i .within, i .kept)) (λ p i. record { within = i .0; kept = i .1 }) s k)
 
   kept : (s : List Point) × Lists (Kept c m) s
   kept = kept-list-exists c m
 
-  pub missing-fewer : length m ≤ length l
+  pub missing-fewer : length m ≤ count
   missing-fewer = omega (arith, result-count (kept .0) (kept .1))
 
   module _ (room : List ℤ) where
-    abbrev Ends : ℕ → ℕ → List ℤ → Type 0
-    Ends number count after = Outcome (resultRows c m room accepted) c m room (record { number = number; place = 0; points = count }) after
+    abbrev Ends : Rebuilt → Type 0
+    Ends = Foreseen (resultRows c m room accepted) corners missing room
 
-    pub too-many : most < length l - length m → Ends 11 0 room
+    pub too-many : most < count - length m → Ends (answer 11 0)
     too-many g = record {
       gives = inl (refl, whole-first (kept .0, kept .1, omega (arith, g, result-count (kept .0) (kept .1))));
-      result = (refl, refl);
+      declined = λ _. refl;
+      passed = λ e. absurd (omega (arith, e));
     }
 
-    module _ (few : length l - length m ≤ most) where
+    module _ (few : count - length m ≤ most) where
       not-many : Results c m (λ n. most < n) → ⊥
       not-many (s, k, g) = omega (arith, g, few, result-count s k)
 
-      pub room-small : length room / 2 < length l - length m → Ends 12 0 room
+      pub room-small : length room / 2 < count - length m → Ends (answer 12 0)
       room-small g = record {
         gives = inr (whole-never not-many, inl (refl, whole-first (kept .0, kept .1, omega (arith, g, result-count (kept .0) (kept .1)))));
-        result = (refl, refl);
+        declined = λ _. refl;
+        passed = λ e. absurd (omega (arith, e));
       }
 
-      module _ (wide : length l - length m ≤ length room / 2) where
-        pub room-takes : (s : List Point) × Lists (Kept c m) s × (2 * length s ≤ length room)
-        room-takes = (kept .0, kept .1, omega (arith, wide, result-count (kept .0) (kept .1)))
+      pub room-takes : count - length m ≤ length room / 2 → (r : ℕ) → r ≡ count - length m → Ends (record { number = 0; place = 0; points = r })
+      room-takes wide r e = record {
+        gives = inr (whole-never not-many, inr (whole-never (λ (s, k, g). omega (arith, g, wide, result-count s k)), (refl, refl)));
+        declined = λ f. absurd (f refl);
+        passed = λ _. record {
+          walked = w;
+          takes = (kept .0, kept .1, omega (arith, wide, result-count (kept .0) (kept .1)));
+          counted = omega (arith, e, result-count (kept .0) (kept .1));
+        };
+      }
 
-        pub written : (count : ℕ) (after : List ℤ) → (s : List Point) × Lists (Kept c m) s × (count ≡ length s) × (after ≡ holding s room)
-            → Ends 0 count after
-        written count after w = record {
-          gives = inr (whole-never not-many, inr (whole-never (λ (s, k, g). omega (arith, g, wide, result-count s k)), (refl, refl)));
-          result = w;
-        }
+-- the same of an equal answer
+pub foreseen-as : {t : Table} {corners missing room : List ℤ} {a b : Rebuilt} → a ≡ b → Foreseen t corners missing room b → Foreseen t corners missing room a
+foreseen-as {t} {corners} {missing} {room} e h = subst (Foreseen t corners missing room) (sym e) h
 
--- ---- corners that stand packed at the front of an array
-module _ (corners missing room : List ℤ) (outline : List ℕ) (o : Outlines (points corners) outline) where
-  abbrev front : List ℕ
-  front = take (length corners / 2) outline
+-- ---- rows that decline, rows that let pass
+module _ (t later : Table) {corners missing room : List ℤ} where
+  rows-decline : {a : Rebuilt} → Looks t a → (a .number ≡ 0 → ⊥) → Foreseen (t then later) corners missing room a
+  rows-decline {a} h n = record { gives = before (a .number) n (h .gives); declined = λ _. h .uncounted; passed = λ e. absurd (n e) }
+    where
+      before : (number : ℕ) → (number ≡ 0 → ⊥) → Gives t number (a .place) → Gives (t then later) number (a .place)
+      before zero f g = absurd (f refl)
+      before (suc number) f g = declined-before t later number (a .place) g
 
-  pub front-few : length corners / 2 ≤ length outline
-  front-few = omega (arith, o .few, points-length corners)
+  rows-pass : Numbered t → (place : ℕ) → Gives t 0 place → {a : Rebuilt} → Foreseen later corners missing room a → Foreseen (t then later) corners missing room a
+  rows-pass n place g {a} h = record {
+    gives = passed-before t later n place (a .number) (a .place) g (h .gives);
+    declined = h .declined;
+    passed = h .passed;
+  }
 
-  pub front-below : Below front
-  front-below = subst (λ n. Below (take n outline)) (points-length corners) (o .below)
+-- both lists, then corners and missing points
+module _ (corners missing room : List ℤ) where
+  pub lists-declined : {a : Rebuilt} → Looks (inputRows corners missing accepted) a → (a .number ≡ 0 → ⊥)
+      → Foreseen (rebuildTable corners missing room) corners missing room a
+  lists-declined = rows-decline (inputRows corners missing accepted) (pointRows corners missing room)
 
-  front-same : map unpacked front ≡ points corners
-  front-same = subst (λ n. map unpacked (take n outline) ≡ points corners) (points-length corners) (o .same)
-
-  module _ (number place count : ℕ)
-      (h : Looks (rebuildRows (map unpacked front) (points missing) accepted) (record { number = number; place = place; points = count })) where
-    shown : Looks (rebuildRows (points corners) (points missing) accepted) (record { number = number; place = place; points = count })
-    shown = subst (λ c. Looks (rebuildRows c (points missing) accepted) (record { number = number; place = place; points = count })) front-same h
-
-    pub points-declined : (number ≡ 0 → ⊥) → Behind corners missing room (record { number = number; place = place; points = count }) room
-    points-declined n =
-        outcome-declined (rebuildRows (points corners) (points missing) accepted) (resultRows (points corners) (points missing) room accepted)
-        (points corners) (points missing) room number place count n shown
-
-    module _ (e : number ≡ 0) where
-      pub points-walked : Walked front missing
-      points-walked = walked front missing front-below place (subst (λ n. Gives (rebuildRows (map unpacked front) (points missing) accepted) n place) e (h .gives))
-
-      pub points-passed : (answer : Rebuilt) (after : List ℤ)
-          → Outcome (resultRows (map unpacked front) (points missing) room accepted) (map unpacked front) (points missing) room answer after
-          → Behind corners missing room answer after
-      points-passed answer after r =
-          outcome-passed (rebuildRows (points corners) (points missing) accepted) (resultRows (points corners) (points missing) room accepted)
-          (points corners) (points missing) room (tt, (tt, (tt, tt))) place
-          (subst (λ n. Gives (rebuildRows (points corners) (points missing) accepted) n place) e (shown .gives)) answer after
-          (subst (λ c. Outcome (resultRows c (points missing) room accepted) c (points missing) room answer after) front-same r)
-
--- ---- both lists
-module _ (corners missing room : List ℤ) (number place count : ℕ)
-    (h : Looks (inputRows corners missing accepted) (record { number = number; place = place; points = count })) where
-  pub lists-declined : (number ≡ 0 → ⊥) → RebuildPromise corners missing room (record { number = number; place = place; points = count }) room
-  lists-declined n =
-      outcome-declined (inputRows corners missing accepted) (pointRows corners missing room) (points corners) (points missing) room number place count n h
-
-  module _ (e : number ≡ 0) where
-    passes : Gives (inputRows corners missing accepted) 0 place
-    passes = subst (λ n. Gives (inputRows corners missing accepted) n place) e (h .gives)
+  module _ {l : Rebuilt} (h : Looks (inputRows corners missing accepted) l) (e : l .number ≡ 0) where
+    passes : Gives (inputRows corners missing accepted) 0 (l .place)
+    passes = subst (λ n. Gives (inputRows corners missing accepted) n (l .place)) e (h .gives)
 
     pub lists-taken : Taken corners missing
-    lists-taken = taken corners missing place passes
+    lists-taken = taken corners missing (l .place) passes
 
-    pub lists-passed : (answer : Rebuilt) (after : List ℤ) → Behind corners missing room answer after → RebuildPromise corners missing room answer after
-    lists-passed answer after r =
-        outcome-passed (inputRows corners missing accepted) (pointRows corners missing room) (points corners) (points missing) room
-        (tt, (tt, (tt, (tt, tt)))) place passes answer after r
+    behind : {a : Rebuilt} → Foreseen (pointRows corners missing room) corners missing room a → Foreseen (rebuildTable corners missing room) corners missing room a
+    behind = rows-pass (inputRows corners missing accepted) (pointRows corners missing room) (tt, (tt, (tt, (tt, tt)))) (l .place) passes
+
+    abbrev later : Table
+    later = resultRows (points corners) (points missing) room accepted
+
+    pub points-declined : {a : Rebuilt} → Looks (rebuildRows (points corners) (points missing) accepted) a → (a .number ≡ 0 → ⊥)
+        → Foreseen (rebuildTable corners missing room) corners missing room a
+    points-declined g n = behind (rows-decline (rebuildRows (points corners) (points missing) accepted) later g n)
+
+    module _ {p : Rebuilt} (g : Looks (rebuildRows (points corners) (points missing) accepted) p) (f : p .number ≡ 0) where
+      pass : Gives (rebuildRows (points corners) (points missing) accepted) 0 (p .place)
+      pass = subst (λ n. Gives (rebuildRows (points corners) (points missing) accepted) n (p .place)) f (g .gives)
+
+      pub points-walked : Walked corners missing
+      points-walked = walked corners missing lists-taken (p .place) pass
+
+      pub points-passed : {a : Rebuilt} → Foreseen later corners missing room a → Foreseen (rebuildTable corners missing room) corners missing room a
+      points-passed k = behind (rows-pass (rebuildRows (points corners) (points missing) accepted) later (tt, (tt, (tt, tt))) (p .place) pass k)
+
+-- ---- what was foreseen, written or not
+module _ {corners missing room : List ℤ} {a : Rebuilt} (h : Foreseen (rebuildTable corners missing room) corners missing room a) where
+  pub rebuilt-declined : (a .number ≡ 0 → ⊥) → RebuildPromise corners missing room a room
+  rebuilt-declined n = record { gives = h .gives; result = unwritten (a .number) n (h .declined n) }
+    where
+      unwritten : (number : ℕ) → (number ≡ 0 → ⊥) → a .points ≡ 0 → RebuildResult (points corners) (points missing) room number (a .points) room
+      unwritten zero f e = absurd (f refl)
+      unwritten (suc number) f e = (e, refl)
+
+  pub rebuilt-written : a .number ≡ 0 → (r : ℕ) (after : List ℤ) → Puts (Lacking corners missing) room r after → RebuildPromise corners missing room a after
+  rebuilt-written e r after (l, k, d, f) =
+      let y = h .passed e in
+      let s = lists-unique (Lacking corners missing) (y .takes .0) l (y .takes .1) k in
+      record {
+        gives = h .gives;
+        result = subst (λ n. RebuildResult (points corners) (points missing) room n (a .points) after) (sym e) (l, k, y .counted ∙ ap length s, f);
+      }
 
 -- ---- any two outcomes coincide
 results-equal : (c m : List Point) (room : List ℤ) (number count other : ℕ) (after later : List ℤ)

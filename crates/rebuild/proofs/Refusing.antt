@@ -10,8 +10,8 @@ use Rattle.lattice.specs.Point.{Point, most, points}
 use Rattle.lattice.specs.Hull.{CornerList}
 use Rattle.lattice.specs.Refusal.{Table, accepted, _when_else_, Gives, AtPoint, Strays, Odd, OutOfRange, Misplaced, rebuildRows}
 use Rattle.lattice.proofs.Tables.{whole-first, whole-never}
-use Rattle.order.specs.First.{FirstBelow}
-use Rattle.order.proofs.Passing.{first-here, never-below}
+use Rattle.range.specs.First.{FirstBelow}
+use Rattle.range.proofs.Passing.{first-here, never-below}
 use Rattle.rebuild.specs.declared.Rebuilt.{Rebuilt}
 use Rattle.rebuild.specs.Rebuild.{inputRows}
 use Rattle.rebuild.specs.Looking.{Looks}

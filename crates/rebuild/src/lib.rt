@@ -1,18 +1,10 @@
 // Rebuild: the way back, from corners and missing points to the points.
-mod missing;
-mod outline;
-
 ghost use mathlib.Core.Path.{_≡_};
-ghost use mathlib.Core.List.{map};
-ghost use Prim.Native.Nat.{_≤_};
-ghost use lib.ListN.{length};
-ghost use Rattle.lattice.specs.Point.{InRange, points, All};
+ghost use Rattle.lattice.specs.Point.{points};
 ghost use Rattle.lattice.specs.Refusal.{accepted, rebuildRows};
-ghost use Rattle.packed.specs.Packed.{unpacked};
-ghost use Rattle.order.specs.Keys.{Below};
 ghost use Rattle.walk.specs.Walk.{Walked};
-ghost use Rattle.rebuild.specs.Rebuild.{inputRows, RebuildPromise};
-ghost use Rattle.rebuild.specs.Looking.{Taken, Behind, Resulting, Looks};
+ghost use Rattle.rebuild.specs.Rebuild.{inputRows, resultRows, rebuildTable, RebuildPromise};
+ghost use Rattle.rebuild.specs.Looking.{Taken, Looks, Foreseen};
 
 // What Rebuild answers: number and place, 0 and 0 if accepted, and how many points there are.
 #[repr(C)]
@@ -46,11 +38,11 @@ fn refusal_of_lists(corners: &[i32], missing: &[i32]) -> Rebuilt
     if packed::MOST < n {
         return declined(2, 0);
     }
-    let corner = order::first_outside(corners);
+    let corner = range::first_outside(corners);
     if corner < n {
         return declined(3, corner);
     }
-    let point = order::first_outside(missing);
+    let point = range::first_outside(missing);
     if point < missing.len() / 2 {
         return declined(3, point);
     }
@@ -62,19 +54,19 @@ fn refusal_of_lists(corners: &[i32], missing: &[i32]) -> Rebuilt
 }
 
 // Refusals 8, 9 and 10 of points in range; number 0 if there is none.
-fn refusal_of_points(outline: &[u32], missing: &[i32]) -> Rebuilt
-    requires { ⌜ Below (now outline) × All InRange (points (now missing)) ⌝ }
-    ensures { λ r. ⌜ Looks (rebuildRows (map unpacked (now (outline .entry))) (points (now (missing .entry))) accepted) r ⌝ }
+fn refusal_of_points(corners: &[i32], missing: &[i32]) -> Rebuilt
+    requires { ⌜ Taken (now corners) (now missing) ⌝ }
+    ensures { λ r. ⌜ Looks (rebuildRows (points (now (corners .entry))) (points (now (missing .entry))) accepted) r ⌝ }
 {
     let n = missing.len() / 2;
-    if !outline::is_corner_list(outline) {
+    if !outline::is_corner_list(corners) {
         return declined(8, 0);
     }
     let stray = missing::first_stray(missing);
     if stray < n {
         return declined(9, stray);
     }
-    let place = missing::first_misplaced(outline, missing);
+    let place = missing::first_misplaced(corners, missing);
     if place < n {
         return declined(10, place);
     }
@@ -85,69 +77,47 @@ fn refusal_of_points(outline: &[u32], missing: &[i32]) -> Rebuilt
     }
 }
 
-// Refusals 11 and 12, or the points that result at the front of the room.
-fn result(outline: &[u32], missing: &[i32], room: &mut [i32]) -> Rebuilt
-    requires { ⌜ Walked (now outline) (now missing) ⌝ }
-    ensures { λ r. ⌜ Resulting (now (outline .entry)) (now (missing .entry)) (now (room .entry)) r (now (room .exit)) ⌝ }
+// Refusals 11 and 12; number 0 and how many points result if there is none.
+fn refusal_of_result(corners: &[i32], missing: &[i32], room: &[i32]) -> Rebuilt
+    requires { ⌜ Walked (now corners) (now missing) ⌝ }
+    ensures { λ r. ⌜ Foreseen (resultRows (points (now (corners .entry))) (points (now (missing .entry))) (now (room .entry)) accepted) (now (corners .entry)) (now (missing .entry)) (now (room .entry)) r ⌝ }
 {
-    let count = pick::count(outline) - (missing.len() / 2) as u64;
+    let count = pick::count_of(corners) - (missing.len() / 2) as u64;
     if count > packed::MOST as u64 {
         return declined(11, 0);
     }
     if count > (room.len() / 2) as u64 {
         return declined(12, 0);
     }
-    let points = walk::write(outline, missing, room);
     Rebuilt {
         number: 0,
         place: 0,
-        points,
+        points: count as usize,
     }
 }
 
-// Rebuild of lists that pass refusals 1 to 3, in working space that is lent.
-fn rebuild_in(corners: &[i32], missing: &[i32], room: &mut [i32], outline: &mut [u32]) -> Rebuilt
-    requires { ⌜ Taken (now corners) (now missing) × (length (points (now corners)) ≤ length (now outline)) ⌝ }
-    ensures { λ r. ⌜ Behind (now (corners .entry)) (now (missing .entry)) (now (room .entry)) r (now (room .exit)) ⌝ }
+// The first refusal that applies; number 0 and how many points result if none does. The room is only looked at.
+fn refusal(corners: &[i32], missing: &[i32], room: &[i32]) -> Rebuilt
+    ensures { λ r. ⌜ Foreseen (rebuildTable (now (corners .entry)) (now (missing .entry)) (now (room .entry))) (now (corners .entry)) (now (missing .entry)) (now (room .entry)) r ⌝ }
 {
-    outline::pack(corners, outline);
-    let n = corners.len() / 2;
-    let found = refusal_of_points(&outline[..n], missing);
-    let number = found.number;
-    if number != 0 {
-        return found;
+    let of_lists = refusal_of_lists(corners, missing);
+    if of_lists.number != 0 {
+        return of_lists;
     }
-    result(&outline[..n], missing, room)
-}
-
-// Rebuild with as much working space as the corners ask for: what a call zeroes is what it costs a small grain.
-fn rebuild_few(corners: &[i32], missing: &[i32], room: &mut [i32]) -> Rebuilt
-    requires { ⌜ Taken (now corners) (now missing) × (length (points (now corners)) ≤ 64) ⌝ }
-    ensures { λ r. ⌜ Behind (now (corners .entry)) (now (missing .entry)) (now (room .entry)) r (now (room .exit)) ⌝ }
-{
-    let mut outline = [0u32; 64];
-    rebuild_in(corners, missing, room, &mut outline)
-}
-
-fn rebuild_many(corners: &[i32], missing: &[i32], room: &mut [i32]) -> Rebuilt
-    requires { ⌜ Taken (now corners) (now missing) ⌝ }
-    ensures { λ r. ⌜ Behind (now (corners .entry)) (now (missing .entry)) (now (room .entry)) r (now (room .exit)) ⌝ }
-{
-    let mut outline = [0u32; 4096];
-    rebuild_in(corners, missing, room, &mut outline)
+    let of_points = refusal_of_points(corners, missing);
+    if of_points.number != 0 {
+        return of_points;
+    }
+    refusal_of_result(corners, missing, room)
 }
 
 // The points of the corners' hull that are not missing, in row order at the front of the room.
 pub fn rebuild(corners: &[i32], missing: &[i32], room: &mut [i32]) -> Rebuilt
     ensures { λ r. ⌜ RebuildPromise (now (corners .entry)) (now (missing .entry)) (now (room .entry)) r (now (room .exit)) ⌝ }
 {
-    let found = refusal_of_lists(corners, missing);
-    let number = found.number;
-    if number != 0 {
-        return found;
+    let found = refusal(corners, missing, room);
+    if found.number == 0 {
+        walk::write(corners, missing, room);
     }
-    if corners.len() / 2 <= 64 {
-        return rebuild_few(corners, missing, room);
-    }
-    rebuild_many(corners, missing, room)
+    found
 }

@@ -1,3 +1,3 @@
--- What Verdict and Report promise, and what they work on.
+-- What Verdict and Report promise, and their accepted answers.
 pub mod Report
-pub mod Grain
+pub mod Answer

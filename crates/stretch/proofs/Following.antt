@@ -1,23 +1,23 @@
 -- Both sides of a hull from its first row to its last, and what lies between them. Assumes nothing.
-use mathlib.Core.Path.{_≡_, sym, ap, subst}
+use mathlib.Core.Path.{_≡_, refl, sym, ap, subst}
 use mathlib.Core.List.{List, map}
 use Prim.Native.Nat.{ℕ, suc, _+_, _-_, _*_, _/_, _%_, _≤_, _<_}
 use native.Mathlib.Numerals.{add-one}
 use native.Mathlib.Omega.{arith}
-use lib.ListN.{getD}
+use lib.ListN.{length, getD}
+use lib.IntN.{ℤ}
+use Rattle.lattice.specs.Point.{points}
 use Rattle.lattice.proofs.Lists.{either}
 use Rattle.lattice.proofs.Places.{lt-or-le}
 use Rattle.packed.specs.Packed.{side, unpacked}
-use Rattle.stretch.specs.Stretch.{Bounded, Slope, StretchOf, Peaked, Tall, Rises, Falls, RisesFrom, FallsFrom, unit, moved, columnOf, Climbs, Only, Rising, Falling, OnRight, OnLeft, Crosses}
+use Rattle.packed.specs.Corners.{keysOf}
+use Rattle.packed.proofs.KeysOf.{keys-unpacked}
+use Rattle.stretch.specs.Stretch.{Bounded, Slope, Way, StretchOf, Peaked, HasRow, lastRow, Tall, Rises, Falls, RisesFrom, FallsFrom, unit, moved, columnOf, Climbs, Only, Rising, Falling, OnRight, OnLeft, Crosses, stepped, GoesOn}
 use Rattle.stretch.specs.declared.Stretch.{Stretch}
 use Rattle.stretch.specs.declared.Edge.{Edge}
 use Rattle.stretch.specs.declared.Crossing.{Crossing}
 use Rattle.stretch.proofs.Climbing.{step-small, climbs-on, right-column, left-column}
-use Rattle.stretch.proofs.Sides.{after-below, flat, crossed}
-
--- the edge one row further
-abbrev pub stepped : Edge → Edge
-stepped e = record { place = e .place; last = e .last; position = e .position + e .slope; slope = e .slope }
+use Rattle.stretch.proofs.Sides.{after-below, rises-on, flat, crossed}
 
 module _ (corners : List ℕ) (peak y : ℕ) (h : Peaked corners peak y) where
   abbrev first-row : ℕ
@@ -26,7 +26,7 @@ module _ (corners : List ℕ) (peak y : ℕ) (h : Peaked corners peak y) where
   abbrev last-row : ℕ
   last-row = getD corners peak 0 / side
 
-  pub rising-slope : (i : ℕ) → Rises corners y i → Slope (getD corners i 0) (getD corners (i + 1) 0) y
+  rising-slope : (i : ℕ) → Rises corners y i → Slope (getD corners i 0) (getD corners (i + 1) 0) y
   rising-slope i r = subst (λ n. Slope (getD corners i 0) (getD corners n 0) y) (sym (add-one i)) (record {
     a-below = h .below i (omega (arith, r .inside));
     b-below = h .below (suc i) (r .inside);
@@ -35,7 +35,7 @@ module _ (corners : List ℕ) (peak y : ℕ) (h : Peaked corners peak y) where
     steep = r .steep;
   })
 
-  pub falling-slope : (i end : ℕ) → Falls corners y i end → Slope end (getD corners i 0) y
+  falling-slope : (i end : ℕ) → Falls corners y i end → Slope end (getD corners i 0) y
   falling-slope i end f = record {
     a-below = after-below corners i end (h .below) (f .after);
     b-below = h .below i (f .inside);
@@ -45,7 +45,7 @@ module _ (corners : List ℕ) (peak y : ℕ) (h : Peaked corners peak y) where
   }
 
   -- the hull has the row after y
-  pub next-row : y < last-row → Peaked corners peak (y + 1)
+  next-row : y < last-row → Peaked corners peak (y + 1)
   next-row l = record { below = h .below; listed = h .listed; peaks = h .peaks; from-row = omega (arith, h .from-row); to-row = omega arith }
 
   tall-from : y < last-row → Tall corners peak
@@ -58,7 +58,7 @@ module _ (corners : List ℕ) (peak y : ℕ) (h : Peaked corners peak y) where
       (λ g. absurd (omega (arith, h .from-row, k, g, n (λ t. omega (arith, t, g)) .last)))
 
   -- what lies between the sides
-  pub between-sides : (c : Crossing) → Crosses corners peak y c → (t : Stretch) → Bounded (columnOf (c .left)) (columnOf (c .right) + 1) t
+  between-sides : (c : Crossing) → Crosses corners peak y c → (t : Stretch) → Bounded (columnOf (c .left)) (columnOf (c .right) + 1) t
       → StretchOf (map unpacked corners) y t
   between-sides c k t b =
       either (lt-or-le first-row last-row)
@@ -98,9 +98,11 @@ module _ (corners : List ℕ) (peak y : ℕ) (h : Peaked corners peak y) where
         only = λ n. absurd (n right-tall);
       })
 
-    -- past its end
-    pub rises-from : y < last-row → e .last ≤ y → RisesFrom corners peak (y + 1) (e .place)
-    rises-from l k = let r = on .tall (tall-from l) in record { before = r .before; low = omega (arith, r .rises .low) }
+    -- past its end: the next edge, or one behind it
+    pub rises-from : y < last-row → e .last ≤ y → RisesFrom corners peak (y + 1) (e .place + 1)
+    rises-from l k =
+        let r = on .tall (tall-from l) in
+        rises-on corners peak (y + 1) (next-row l) (e .place) (record { before = r .before; low = omega (arith, r .rises .low) }) (omega (arith, k, r .climbs .last))
 
   pub right-of : (i : ℕ) → i < peak → Rises corners y i → Tall corners peak → (e : Edge) → e .place ≡ i
       → Climbs (getD corners i 0) (getD corners (i + 1) 0) y 0 e → OnRight corners peak y e
@@ -172,3 +174,49 @@ module _ (corners : List ℕ) (peak y : ℕ) (h : Peaked corners peak y) where
     };
     only = λ n. absurd (n t);
   }
+
+-- ---- corners as numbers
+module _ {corners : List ℤ} {peak y : ℕ} (h : HasRow corners peak y) where
+  pub row-after : y < lastRow corners peak → HasRow corners peak (y + 1)
+  row-after l = record { range = h .range; peaked = next-row (keysOf corners) peak y (h .peaked) l }
+
+  -- both edges go on
+  module _ (c : Crossing) (k : Crosses (keysOf corners) peak y c) (g : GoesOn c y) where
+    pub both-small : (c .left .position + c .left .slope < unit * unit) × (c .right .position + c .right .slope < unit * unit)
+    both-small = (left-small (keysOf corners) peak y (h .peaked) (c .left) (k .left) (g .0), right-small (keysOf corners) peak y (h .peaked) (c .right) (k .right) (g .1))
+
+    pub both-on : (r : Crossing) → r ≡ record { left = stepped (c .left); right = stepped (c .right) } → Crosses (keysOf corners) peak (y + 1) r
+    both-on r e = subst (Crosses (keysOf corners) peak (y + 1)) (sym e) (record {
+      left = left-on (keysOf corners) peak y (h .peaked) (c .left) (k .left) (g .0) (stepped (c .left)) refl;
+      right = right-on (keysOf corners) peak y (h .peaked) (c .right) (k .right) (g .1) (stepped (c .right)) refl;
+    })
+
+  -- the ways between corners
+  pub rising-way : (i : ℕ) → Rises (keysOf corners) y i → Way corners i (i + 1) y
+  rising-way i r = record {
+    range = h .range;
+    low-inside = omega (arith, r .inside);
+    high-inside = omega (arith, r .inside);
+    slope = rising-slope (keysOf corners) peak y (h .peaked) i r;
+  }
+
+  pub falling-way : (i : ℕ) → suc i < length (keysOf corners) → Falls (keysOf corners) y i (getD (keysOf corners) (i + 1) 0) → Way corners (i + 1) i y
+  falling-way i l f = record {
+    range = h .range;
+    low-inside = omega arith;
+    high-inside = omega arith;
+    slope = falling-slope (keysOf corners) peak y (h .peaked) i _ f;
+  }
+
+  pub closing-way : (i : ℕ) → Falls (keysOf corners) y i (getD (keysOf corners) 0 0) → Way corners 0 i y
+  closing-way i f = record {
+    range = h .range;
+    low-inside = omega (arith, f .inside);
+    high-inside = f .inside;
+    slope = falling-slope (keysOf corners) peak y (h .peaked) i _ f;
+  }
+
+  pub columns-between : (c : Crossing) → Crosses (keysOf corners) peak y c → (t : Stretch) → Bounded (columnOf (c .left)) (columnOf (c .right) + 1) t
+      → StretchOf (points corners) y t
+  columns-between c k t b =
+      subst (λ l. StretchOf l y t) (keys-unpacked corners (h .range)) (between-sides (keysOf corners) peak y (h .peaked) c k t b)

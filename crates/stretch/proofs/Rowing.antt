@@ -4,18 +4,30 @@ use mathlib.Core.Path.{subst}
 use mathlib.Core.List.{List, map}
 use Prim.Native.Nat.{ℕ, _+_, _*_, _≤_, _<_}
 use native.Mathlib.Omega.{arith}
-use lib.ListN.{getD}
-use Rattle.lattice.specs.Point.{Point, In, Before}
+use lib.ListN.{length, getD}
+use lib.IntN.{ℤ}
+use Rattle.lattice.specs.Point.{Point, InRange, points, point, In, Before}
 use Rattle.lattice.specs.Hull.{InHull, Of}
 use Rattle.lattice.proofs.Lists.{either}
 use Rattle.lattice.proofs.Places.{lt-or-le}
 use Rattle.lattice.proofs.CornerLists.{corner-list-shape}
 use Rattle.lattice.proofs.Polygon.{InsideEnds, polygon-by-ends}
 use Rattle.packed.specs.Packed.{side, unpacked}
+use Rattle.packed.specs.Corners.{Cornered, keysOf}
 use Rattle.packed.proofs.RowOrder.{unpacked-before}
 use Rattle.packed.proofs.KeyLaws.{unpacked-in, in-unpacked}
-use Rattle.stretch.specs.Stretch.{cell, Peaked}
+use Rattle.packed.proofs.KeysOf.{readable}
+use Rattle.stretch.specs.Stretch.{cell, Peaked, HasRow}
 use Rattle.stretch.proofs.Counting.{cell-before, before-cell, is-cell-before, is-before-cell}
+
+-- each corner can be read
+pub corner-in-row : {corners : List ℤ} {peak y : ℕ} → HasRow corners peak y → (i : ℕ) → i < length (keysOf corners)
+    → (i < length (points corners)) × InRange (point (points corners) i)
+corner-in-row {corners} h i l = readable corners (h .range) i l
+
+-- they are a corner list
+pub cornered-of : {corners : List ℕ} {peak y : ℕ} → Peaked corners peak y → Cornered corners
+cornered-of h = record { below = h .below; listed = h .listed }
 
 -- between the first corner and the last in row order
 abbrev pub Between : List ℕ → ℕ → ℕ → ℕ → Type 0

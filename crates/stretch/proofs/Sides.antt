@@ -2,7 +2,7 @@
 use mathlib.Core.Path.{_≡_, refl, sym, _∙_, ap, subst, subst₂}
 use mathlib.Core.Logic.{inl, inr, _↔_}
 use mathlib.Core.List.{List, [], _∷_, map}
-use Prim.Native.Nat.{ℕ, zero, suc, _+_, _-_, _/_, _%_, _≤_, _<_}
+use Prim.Native.Nat.{ℕ, suc, _+_, _-_, _/_, _%_, _≤_, _<_}
 use native.Mathlib.Numerals.{add-one}
 use native.Mathlib.Omega.{arith}
 use lib.ListN.{length, getD, length-map}
@@ -12,17 +12,18 @@ use Rattle.whole.proofs.Whole.{ring, quote, NonNegative, Positive, gap≤, gap<
 use Rattle.lattice.specs.Point.{Point, point, In, Before}
 use Rattle.lattice.specs.Hull.{turn, InHull, member, Of}
 use Rattle.lattice.proofs.Lists.{either}
-use Rattle.lattice.proofs.Places.{lt-or-le, triples-place}
+use Rattle.lattice.proofs.Places.{lt-or-le}
 use Rattle.lattice.proofs.Turn.{coordinates, Left}
-use Rattle.lattice.proofs.CornerLists.{corner-list-test}
 use Rattle.lattice.proofs.Polygon.{InsideEnds}
 use Rattle.packed.specs.Packed.{side, cells, placed, unpacked}
-use Rattle.packed.proofs.RowOrder.{unpacked-before, placed-order, order-placed, placed-grows}
+use Rattle.packed.specs.Corners.{Cornered}
+use Rattle.packed.proofs.RowOrder.{placed-order, order-placed, placed-grows}
 use Rattle.packed.proofs.KeyLaws.{unpacked-at, unpacked-in}
+use Rattle.packed.proofs.Corners.{first-least, none-before, any-three}
 use Rattle.stretch.specs.Stretch.{cell, Bounded, StretchOf, Peaked, Tall, After, Rises, Falls, RisesFrom, FallsFrom, FirstRises}
 use Rattle.stretch.specs.declared.Stretch.{Stretch}
 use Rattle.stretch.proofs.Counting.{LeftOf, EndsAt, BeginsAt, at-foot, at-head}
-use Rattle.stretch.proofs.Rowing.{Between, in-hull, cells-between, between-cells}
+use Rattle.stretch.proofs.Rowing.{cornered-of, Between, in-hull, cells-between, between-cells}
 
 -- ---- an edge u v with a, b on its left, and p between their rows on the left of the way from a up to b, down to b
 -- where u v rises, p is on the left of u v as well
@@ -90,33 +91,14 @@ after-below corners i r f (inr h) = subst (λ n. n < cells) (sym (h .1)) (f 0 (o
 
 -- ---- where the edges are found
 module _ (corners : List ℕ) (peak y : ℕ) (h : Peaked corners peak y) where
-  abbrev c : List Point
-  c = map unpacked corners
-
   abbrev rowAt : ℕ → ℕ
   rowAt i = getD corners i 0 / side
 
-  long : length c ≡ length corners
-  long = length-map corners unpacked
-
-  at : (i : ℕ) → i < length corners → point c i ≡ unpacked (getD corners i 0)
-  at i l = unpacked-at corners i l
-
-  -- the first corner is before each other
-  first-least : (i : ℕ) → suc i < length corners → getD corners 0 0 < getD corners (suc i) 0
-  first-least i l =
-      unpacked-before (getD corners 0 0) (getD corners (suc i) 0)
-      (subst₂ Before (at 0 (omega arith)) (at (suc i) l) (corner-list-test c .1 (h .listed) .first i (omega (arith, l, long))))
+  listed : Cornered corners
+  listed = cornered-of h
 
   first-row : (i : ℕ) → i < length corners → rowAt 0 ≤ rowAt i
-  first-row zero l = omega arith
-  first-row (suc i) l = omega (arith, first-least i l)
-
-  left-of : (i j k : ℕ) → i < j → j < k → k < length corners → Left (unpacked (getD corners i 0)) (unpacked (getD corners j 0)) (unpacked (getD corners k 0))
-  left-of i j k u v l =
-      subst (λ p. Left p (unpacked (getD corners j 0)) (unpacked (getD corners k 0))) (at i (omega arith))
-      (subst (λ p. Left (point c i) p (unpacked (getD corners k 0))) (at j (omega arith))
-      (subst (λ p. Left (point c i) (point c j) p) (at k l) (triples-place Left c (h .listed .three) i j k u v (omega (arith, l, long)))))
+  first-row i l = omega (arith, none-before listed i l)
 
   module _ (t : Tall corners peak) where
     later : 0 < peak
@@ -145,7 +127,7 @@ module _ (corners : List ℕ) (peak y : ℕ) (h : Peaked corners peak y) where
         rises =
             order-placed (rowAt 1) (rowAt 2)
             (above (unpacked (getD corners 0 0)) (unpacked (getD corners 1 0)) (unpacked (getD corners 2 0)) (ap placed e)
-            (placed-order (getD corners 0 0 % side) (getD corners 1 0 % side) (omega (arith, e, first-least 0 two-corners))) (left-of 0 1 2 (omega arith) (omega arith) third))
+            (placed-order (getD corners 0 0 % side) (getD corners 1 0 % side) (omega (arith, e, first-least listed 0 two-corners))) (any-three listed 0 1 2 (omega arith) (omega arith) third))
 
     -- the last edge falls to the first corner
     pub falling-last : Falls corners (rowAt 0) (length corners - 1) (getD corners 0 0)
@@ -166,8 +148,8 @@ module _ (corners : List ℕ) (peak y : ℕ) (h : Peaked corners peak y) where
             not-right (unpacked (getD corners 0 0)) (unpacked (getD corners peak 0)) (unpacked (getD corners k 0)) (ap placed e)
             (placed-order (rowAt 0) (rowAt peak) t)
             (placed-order (getD corners 0 0 % side) (getD corners k 0 % side)
-            (omega (arith, e, subst (λ n. getD corners 0 0 < getD corners n 0) d (first-least (k - 1) (omega (arith, m, two-corners))))))
-            (left-of 0 peak k later m (omega (arith, two-corners))))
+            (omega (arith, e, subst (λ n. getD corners 0 0 < getD corners n 0) d (first-least listed (k - 1) (omega (arith, m, two-corners))))))
+            (any-three listed 0 peak k later m (omega (arith, two-corners))))
             (λ m. let d : peak ≡ k = omega (arith, m, h .peaks .inside) in omega (arith, t, e, ap rowAt d))
 
   -- ---- one edge further
@@ -186,6 +168,12 @@ module _ (corners : List ℕ) (peak y : ℕ) (h : Peaked corners peak y) where
       high = u;
       steep = omega (arith, r .low, u);
     }
+
+    pub rises-tall : RisesFrom corners peak y i → Tall corners peak
+    rises-tall r = omega (arith, r .low, h .to-row, first-row i (omega (arith, r .before, h .peaks .inside)))
+
+    pub falls-tall : FallsFrom corners peak y i → Tall corners peak
+    falls-tall r = omega (arith, r .low, h .to-row, first-row (i + 1) (omega (arith, r .inside)))
 
     pub falls-past : FallsFrom corners peak y i → rowAt i < y → peak < i
     falls-past r u =
@@ -331,7 +319,7 @@ module _ (corners : List ℕ) (peak y : ℕ) (h : Peaked corners peak y) where
 
         end-from : getD corners 0 0 ≤ end
         end-from = either (f .after)
-            (λ k. omega (arith, k .1, first-least corners peak y h j (k .0)))
+            (λ k. omega (arith, k .1, first-least (cornered-of h) j (k .0)))
             (λ k. omega (arith, k .1))
 
     pub crossed : (from to : ℕ) (t : Stretch) → EndsAt (getD corners i 0) (getD corners (i + 1) 0) y to → BeginsAt (getD corners j 0) end y from

@@ -4,9 +4,11 @@ use mathlib.Core.Logic.{_⊎_, _↔_}
 use mathlib.Core.List.{List, map}
 use Prim.Native.Nat.{ℕ, suc, _+_, _-_, _*_, _/_, _%_, _≤_, _<_}
 use lib.ListN.{length, getD}
-use Rattle.lattice.specs.Point.{Point}
+use lib.IntN.{ℤ}
+use Rattle.lattice.specs.Point.{Point, InRange, points, All}
 use Rattle.lattice.specs.Hull.{InHull, Of, CornerList}
 use Rattle.packed.specs.Packed.{side, cells, placed, unpacked}
+use Rattle.packed.specs.Corners.{keysOf}
 use Rattle.stretch.specs.declared.Stretch.{Stretch}
 use Rattle.stretch.specs.declared.Edge.{Edge}
 use Rattle.stretch.specs.declared.Crossing.{Crossing}
@@ -34,6 +36,13 @@ pub record Slope (a b y : ℕ) : Type 0 where
   pub high : y ≤ b / side
   pub steep : a / side < b / side
 
+-- it goes so between two corners that are numbers in range, by their places
+pub record Way (corners : List ℤ) (low high y : ℕ) : Type 0 where
+  pub range : All InRange (points corners)
+  pub low-inside : low < length (keysOf corners)
+  pub high-inside : high < length (keysOf corners)
+  pub slope : Slope (getD (keysOf corners) low 0) (getD (keysOf corners) high 0) y
+
 -- the stretch has exactly the columns in which row y has a point of the hull of c
 pub record StretchOf (c : List Point) (y : ℕ) (s : Stretch) : Type 0 where
   pub rising : s .from ≤ s .to
@@ -54,6 +63,18 @@ pub record Peaked (corners : List ℕ) (peak y : ℕ) : Type 0 where
   pub peaks : Peak corners peak
   pub from-row : getD corners 0 0 / side ≤ y
   pub to-row : y ≤ getD corners peak 0 / side
+
+-- corners as numbers, in range, as packed points
+pub record HasRow (corners : List ℤ) (peak y : ℕ) : Type 0 where
+  pub range : All InRange (points corners)
+  pub peaked : Peaked (keysOf corners) peak y
+
+-- the rows of the first corner and of the last
+abbrev pub firstRow : List ℤ → ℕ
+firstRow corners = getD (keysOf corners) 0 0 / side
+
+abbrev pub lastRow : List ℤ → ℕ → ℕ
+lastRow corners peak = getD (keysOf corners) peak 0 / side
 
 -- the corners are not all in one row
 abbrev pub Tall : List ℕ → ℕ → Type 0
@@ -146,3 +167,10 @@ pub record OnLeft (corners : List ℕ) (peak y : ℕ) (e : Edge) : Type 0 where
 pub record Crosses (corners : List ℕ) (peak y : ℕ) (c : Crossing) : Type 0 where
   pub left : OnLeft corners peak y (c .left)
   pub right : OnRight corners peak y (c .right)
+
+-- the edge one row further; whether both cross the row after y as well
+abbrev pub stepped : Edge → Edge
+stepped e = record { place = e .place; last = e .last; position = e .position + e .slope; slope = e .slope }
+
+abbrev pub GoesOn : Crossing → ℕ → Type 0
+GoesOn c y = (y < c .left .last) × (y < c .right .last)

@@ -1,12 +1,11 @@
--- The last corner, and the points of a row as a part from the middle of a list in row order. Assumes nothing.
+-- The points of a row as a part from the middle of a list in row order. Assumes nothing.
 use mathlib.Core.Path.{_≡_, sym, _∙_, ap, subst, subst₂}
 use mathlib.Core.Logic.{_⊎_, inl, inr}
 use mathlib.Core.List.{List, [], _∷_}
 use Prim.Native.Nat.{ℕ, _+_, _-_, _*_, _/_, _%_, _≤_, _<_}
 use native.Mathlib.Omega.{arith}
-use borrow.Author.Count.{below-more}
 use lib.Dec.{eqb}
-use lib.ListN.{length, getD}
+use lib.ListN.{length}
 use lib.IntN.{ℤ, pos, _+ℤ_}
 use lib.Signed.{_≤ℤ_, _<ℤ_}
 use mir.Syntax.{w32}
@@ -23,38 +22,12 @@ use Rattle.packed.proofs.Border.{moved-small}
 use Rattle.packed.proofs.Reading.{column-at}
 use Rattle.packed.proofs.Tests.{tells-equal, tells-as}
 use Rattle.packed.proofs.RowOrder.{placed-moved, order-placed, unpacked-in-range}
-use Rattle.order.specs.Row.{Holds, LeadsTo}
-use Rattle.order.proofs.Parts.{part, part-length, part-at}
-use Rattle.order.proofs.RowLaws.{Running}
-use Rattle.stretch.specs.Stretch.{cell, StretchOf, Peak}
+use Rattle.rows.specs.Row.{Holds, LeadsTo}
+use Rattle.range.proofs.Parts.{part, part-length, part-at}
+use Rattle.rows.proofs.RowLaws.{Running}
+use Rattle.stretch.specs.Stretch.{cell, StretchOf}
 use Rattle.stretch.specs.declared.Stretch.{Stretch}
-use Rattle.walk.specs.Walk.{Later, columnAt, RowPoints}
-
--- ---- the last corner in row order
--- the last of the first i corners
-pub record Peaking (corners : List ℕ) (peak i : ℕ) : Type 0 where
-  pub upto : i ≤ length corners
-  pub inside : peak < length corners
-  pub greatest : (j : ℕ) → j < i → getD corners j 0 ≤ getD corners peak 0
-
-module _ (corners : List ℕ) where
-  pub peaking-one : 0 < length corners → Peaking corners 0 1
-  peaking-one h = record {
-    upto = omega arith;
-    inside = h;
-    greatest = λ j l. let e : j ≡ 0 = omega arith in omega (arith, ap (λ n. getD corners n 0) e);
-  }
-
-  module _ (peak i : ℕ) (h : Peaking corners peak i) where
-    pub peaking-more : i < length corners → (r : ℕ) → Later corners peak i r → Peaking corners r (i + 1)
-    peaking-more l r g = record {
-      upto = omega arith;
-      inside = either (g .2) (λ e. omega (arith, e, h .inside)) (λ e. omega (arith, e));
-      greatest = below-more (λ j. getD corners j 0 ≤ getD corners r 0) i (λ j u. omega (arith, h .greatest j u, g .0)) (g .1);
-    }
-
-    pub peaking-all : length corners ≤ i → Peak corners peak
-    peaking-all l = record { inside = h .inside; greatest = λ j u. h .greatest j (omega arith) }
+use Rattle.walk.specs.Walk.{columnAt, RowPoints}
 
 -- ---- the end of a row
 pub rows-rise : (a b : Point) → Before a b → a .y ≤ℤ b .y

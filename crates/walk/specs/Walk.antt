@@ -2,27 +2,27 @@
 -- grain, Rebuild the missing points. Assumes nothing.
 use mathlib.Core.Path.{_≡_}
 use mathlib.Core.Logic.{_⊎_}
-use mathlib.Core.List.{List, [], map}
+use mathlib.Core.List.{List, []}
 use Prim.Native.Nat.{ℕ, _+_, _*_, _-_, _≤_, _<_}
-use lib.ListN.{length, getD}
+use lib.ListN.{length}
 use lib.IntN.{ℤ}
 use Rattle.lattice.specs.Point.{Point, points, point, In, All, Pairs, Before, Lists}
-use Rattle.lattice.specs.Hull.{Kept}
+use Rattle.lattice.specs.Hull.{InHull, Of, Kept}
 use Rattle.lattice.specs.Room.{holding}
 use Rattle.packed.specs.Packed.{side, cells, moved, unpacked}
-use Rattle.packed.specs.Corners.{HullOf, Cornered}
+use Rattle.packed.specs.Corners.{Outline}
 use Rattle.stretch.specs.Stretch.{cell, Within}
 use Rattle.stretch.specs.declared.Stretch.{Stretch}
 
 -- a corner list, and points of its hull in row order
-pub record Walked (corners : List ℕ) (list : List ℤ) : Type 0 where
-  pub cornered : Cornered corners
+pub record Walked (corners list : List ℤ) : Type 0 where
+  pub outline : Outline corners
   pub order : Pairs Before (points list)
-  pub inside : All (HullOf corners) (points list)
+  pub inside : All (InHull (Of (points corners))) (points list)
 
 -- the lattice points of the hull that the list lacks
-abbrev pub Lacking : List ℕ → List ℤ → Point → Type 0
-Lacking corners list = Kept (map unpacked corners) (points list)
+abbrev pub Lacking : List ℤ → List ℤ → Point → Type 0
+Lacking corners list = Kept (points corners) (points list)
 
 -- the least packed point that has P; `cells` if none has it
 pub record FirstOf (P : Point → Type 0) (r : ℕ) : Type 0 where
@@ -38,10 +38,6 @@ abbrev pub Puts : (Point → Type 0) → List ℤ → ℕ → List ℤ → Type 
 Puts P room r room′ = (l : List Point) × Lists P l × (r ≡ length l) × (room′ ≡ holding l room)
 
 -- ---- one row
--- r is i or j, and no earlier corner in row order than either
-abbrev pub Later : List ℕ → ℕ → ℕ → ℕ → Type 0
-Later corners i j r = (getD corners i 0 ≤ getD corners r 0) × (getD corners j 0 ≤ getD corners r 0) × ((r ≡ i) ⊎ (r ≡ j))
-
 -- the column of a point of a list, moved to start at 0
 abbrev pub columnAt : List ℤ → ℕ → ℕ
 columnAt list i = moved ((point (points list) i) .x)

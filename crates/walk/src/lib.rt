@@ -4,9 +4,10 @@ ghost use Prim.Native.Nat.{_<_, _≤_, _-_, _*_};
 ghost use lib.ListN.{length};
 ghost use Rattle.lattice.specs.Point.{InRange, points, point, All, Pairs, Before};
 ghost use Rattle.packed.specs.Packed.{Tells, side};
-ghost use Rattle.order.specs.Row.{RunsTo};
+ghost use Rattle.packed.specs.Corners.{keysOf, Outline};
+ghost use Rattle.rows.specs.Row.{RunsTo};
 ghost use Rattle.stretch.specs.Stretch.{Peak};
-ghost use Rattle.walk.specs.Walk.{Walked, Lacking, FirstOf, Takes, Puts, Later, columnAt, RowPoints, Gap, Across, InRow, Neighbour, FirstColumn};
+ghost use Rattle.walk.specs.Walk.{Walked, Lacking, FirstOf, Takes, Puts, RowPoints, Gap, Across, InRow, Neighbour, FirstColumn};
 use stretch::Stretch;
 
 const SIDE: u32 = 16384;
@@ -14,28 +15,22 @@ const SIDE: u32 = 16384;
 // One more than the last packed point: no point is lacking.
 pub const NONE: u32 = 268435456;
 
-// The later of two corners, and the last of all, in row order, by their places.
-fn later(corners: &[u32], i: usize, j: usize) -> usize
-    requires { ⌜ (i < length (now corners)) × (j < length (now corners)) ⌝ }
-    ensures { λ r. ⌜ Later (now (corners .entry)) i j r ⌝ }
+// The place of the last corner in row order. The corners rise to it and then fall, so it is found by halves.
+pub fn peak(corners: &[i32]) -> usize
+    requires { ⌜ Outline (now corners) × (0 < length (points (now corners))) ⌝ }
+    ensures { λ r. ⌜ Peak (keysOf (now (corners .entry))) r ⌝ }
 {
-    if corners[i] < corners[j] {
-        return j;
+    let mut low: usize = 0;
+    let mut high = corners.len() / 2 - 1;
+    while low < high {
+        let middle = low + (high - low) / 2;
+        if packed::key_at(corners, middle) < packed::key_at(corners, middle + 1) {
+            low = middle + 1;
+        } else {
+            high = middle;
+        }
     }
-    i
-}
-
-pub fn peak(corners: &[u32]) -> usize
-    requires { ⌜ 0 < length (now corners) ⌝ }
-    ensures { λ r. ⌜ Peak (now (corners .entry)) r ⌝ }
-{
-    let mut peak: usize = 0;
-    let mut i: usize = 1;
-    while i < corners.len() {
-        peak = later(corners, peak, i);
-        i += 1;
-    }
-    peak
+    low
 }
 
 // A point of row y, as far behind one of that row as steps that double lead: a long row is passed in few steps.
@@ -99,24 +94,29 @@ fn first_column(row: &[i32], columns: Stretch) -> u32
 }
 
 // The first lattice point of the hull that the list lacks: rows and columns are gone through, and both are left as soon as there is one.
-pub fn first(corners: &[u32], list: &[i32]) -> u32
+pub fn first(corners: &[i32], list: &[i32]) -> u32
     requires { ⌜ Walked (now corners) (now list) ⌝ }
     ensures { λ r. ⌜ FirstOf (Lacking (now (corners .entry)) (now (list .entry))) r ⌝ }
 {
-    if corners.len() == 0 {
+    if corners.len() < 2 {
         return NONE;
     }
     let peak = peak(corners);
-    let last = corners[peak] / SIDE;
-    let mut crossing = stretch::start(corners, peak);
+    let first = packed::row_at(corners, 0);
+    let last = packed::row_at(corners, peak);
+    let mut crossing = stretch::start(corners, peak, first, last);
     let mut begin: usize = 0;
-    let mut y = corners[0] / SIDE;
+    let mut y = first;
     'rows: loop {
         if last < y {
             break 'rows NONE;
         }
         let columns = stretch::across(crossing);
-        crossing = stretch::next(corners, peak, y, crossing);
+        if stretch::goes_on(crossing, y) {
+            crossing = stretch::further(crossing);
+        } else {
+            crossing = stretch::past_corner(corners, peak, last, y, crossing);
+        }
         let end = end_of_row(list, packed::placed(y), begin);
         let row = &list[2 * begin..2 * end];
         let mut x = first_column(row, columns);
@@ -132,25 +132,17 @@ pub fn first(corners: &[u32], list: &[i32]) -> u32
     }
 }
 
-// The column of a row's point, moved to start at 0.
-fn column_at(row: &[i32], i: usize) -> u32
-    requires { ⌜ (i < length (points (now row))) × All InRange (points (now row)) ⌝ }
-    ensures { λ r. ⌜ (r ≡ columnAt (now (row .entry)) i) × (r < side) ⌝ }
-{
-    packed::moved(row[2 * i])
-}
-
 // A point of the row that is as many columns behind another as places, found by steps that double: there is no gap between them.
 fn neighbour(row: &[i32], i: usize) -> usize
     requires { ⌜ (i < length (points (now row))) × All InRange (points (now row)) ⌝ }
     ensures { λ r. ⌜ Neighbour (now (row .entry)) i r ⌝ }
 {
     let n = row.len() / 2;
-    let first = column_at(row, i) as usize;
+    let first = packed::column_at(row, i) as usize;
     let mut last: usize = i;
     let mut step: usize = 1;
     while step < n - i {
-        if column_at(row, i + step) as usize == first + step {
+        if packed::column_at(row, i + step) as usize == first + step {
             last = i + step;
             step = 2 * step;
         } else {
@@ -192,11 +184,11 @@ fn write_row(row: &[i32], stretch: Stretch, y: u32, room: &mut [i32]) -> usize
     while i < n {
         let gap = Stretch {
             from: x,
-            to: column_at(row, i),
+            to: packed::column_at(row, i),
         };
         used += fill(gap, y, &mut room[2 * used..]);
         let last = neighbour(row, i);
-        x = column_at(row, last) + 1;
+        x = packed::column_at(row, last) + 1;
         i = last + 1;
     }
     let rest = Stretch {
@@ -207,22 +199,27 @@ fn write_row(row: &[i32], stretch: Stretch, y: u32, room: &mut [i32]) -> usize
 }
 
 // All lattice points of the hull that the list lacks, at the front of the room; how many there are.
-pub fn write(corners: &[u32], list: &[i32], room: &mut [i32]) -> usize
+pub fn write(corners: &[i32], list: &[i32], room: &mut [i32]) -> usize
     requires { ⌜ Walked (now corners) (now list) × Takes (Lacking (now corners) (now list)) (now room) ⌝ }
     ensures { λ r. ⌜ Puts (Lacking (now (corners .entry)) (now (list .entry))) (now (room .entry)) r (now (room .exit)) ⌝ }
 {
-    if corners.len() == 0 {
+    if corners.len() < 2 {
         return 0;
     }
     let peak = peak(corners);
-    let last = corners[peak] / SIDE;
-    let mut crossing = stretch::start(corners, peak);
+    let first = packed::row_at(corners, 0);
+    let last = packed::row_at(corners, peak);
+    let mut crossing = stretch::start(corners, peak, first, last);
     let mut used: usize = 0;
     let mut begin: usize = 0;
-    let mut y = corners[0] / SIDE;
+    let mut y = first;
     while y <= last {
         let stretch = stretch::across(crossing);
-        crossing = stretch::next(corners, peak, y, crossing);
+        if stretch::goes_on(crossing, y) {
+            crossing = stretch::further(crossing);
+        } else {
+            crossing = stretch::past_corner(corners, peak, last, y, crossing);
+        }
         let end = end_of_row(list, packed::placed(y), begin);
         used += write_row(&list[2 * begin..2 * end], stretch, y, &mut room[2 * used..]);
         begin = end;

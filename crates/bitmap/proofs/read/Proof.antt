@@ -7,12 +7,13 @@ use native.Mathlib.Omega.{arith}
 use borrow.Author.Needs.{needs}
 use denote.Ref.{now}
 use lib.ListN.{length}
-use Rattle.bitmap.specs.declared.pixels.Count.the-variants as counts
-use Rattle.bitmap.specs.declared.header.Header.the-variants.{Sound}
-use Rattle.bitmap.specs.Header.{headerOf}
-use Rattle.bitmap.specs.Pixels.{Raster, plainAt}
+use Rattle.netpbm.specs.declared.Count.the-variants as counts
+use Rattle.netpbm.specs.Raster.{Raster}
+use Rattle.netpbm.specs.Steps.{counted}
+use Rattle.header.specs.declared.Header.the-variants.{Sound}
+use Rattle.header.specs.Header.{headerOf}
+use Rattle.plain.specs.Plain.{plainAt}
 use Rattle.bitmap.specs.Picture.{longest, beginsP1, rastered, readingOf}
-use Rattle.bitmap.specs.Steps.{counted}
 use Rattle.bitmap.proofs.Pictures.{begins-long, too-long, no-begin, bad-header, to-raster, raster-fault, too-many, a-picture, an-answer, pixel-count, writable, promised}
 use Rattle.bitmap.proofs.read.Statement.{statement}
 use Rattle.bitmap.proofs.read.Tie as tie
@@ -36,8 +37,8 @@ few c = c .before .if1 .left
 begins-so : (c : tie.Then2) → beginsP1 (bytes (c .before)) ≡ true
 begins-so c = sym (c .before .begins .ensures) ∙ c .if2 .taken
 
-check-header-requires : tie.Need-check-header-requires
-check-header-requires c κs = begins-long (bytes (c .before)) (begins-so c)
+check-requires : tie.Need-check-requires
+check-requires c κs = begins-long (bytes (c .before)) (begins-so c)
 
 enum-known-width : tie.Need-enum-known-width
 enum-known-width c = search needs
@@ -56,7 +57,7 @@ abbrev begun : tie.After-width → tie.Then2
 begun c = c .before .before .before
 
 header : (c : tie.After-width) → headerOf (bytes (begun c .before)) ≡ Sound (width c) (height c) (place c)
-header c = sym (c .before .before .check-header .ensures) ∙ c .width .given .1
+header c = sym (c .before .before .check .ensures) ∙ c .width .given .1
 
 abbrev raster : tie.After-width → Raster
 raster c = plainAt (bytes (begun c .before)) (width c * height c) (place c)
@@ -67,8 +68,8 @@ reading c = to-raster (bytes (begun c .before)) (few (begun c .before)) (begins-
 mul-pixels : tie.Need-mul-pixels
 mul-pixels c = record { fits = omega (arith, pixel-count (bytes (begun (c .before) .before)) _ _ _ (header (c .before))) }
 
-check-pixels-requires : tie.Need-check-pixels-requires
-check-pixels-requires c κs = search needs
+check-requires-2 : tie.Need-check-requires-2
+check-requires-2 c κs = search needs
 
 enum-known-points : tie.Need-enum-known-points
 enum-known-points c = search needs
@@ -78,15 +79,15 @@ refused-requires-2 c κs = search needs
 
 -- the count of black pixels that is found
 black-count : (c : tie.After-points) → counts.Black (c .points .given .0 .0) ≡ counted 0 (raster (c .before .before .before .before))
-black-count c = sym (c .points .given .1) ∙ c .before .before .check-pixels .ensures
+black-count c = sym (c .points .given .1) ∙ c .before .before .check2 .ensures
 
 returns-2 : tie.Need-returns-2
 returns-2 c = let p = c .before .before .before in
     let w = p .before .before .before .before in
     promised _ _ (reading w ∙ too-many (width w) (height w) (raster w) _ (black-count p) (c .before .if3 .taken)) _ _ _ (c .refused2 .ensures) refl
 
-write-points-requires : tie.Need-write-points-requires
-write-points-requires c κs = let p = c .before .before .before in
+write-requires : tie.Need-write-requires
+write-requires c κs = let p = c .before .before .before in
     let w = p .before .before .before .before in
     let s = begun w .before .before .before in
     writable (bytes (begun w .before)) _ _ _ (header w) _ (black-count p) (c .before .if3 .left) (now (s .before .args .list)) (omega arith)
@@ -95,7 +96,7 @@ returns-3 : tie.Need-returns-3
 returns-3 c = let p = c .before .before .before .before in
     let w = p .before .before .before .before in
     promised _ _ (reading w ∙ a-picture (width w) (height w) (raster w) _ (black-count p) (c .before .before .if3 .left)) _ _ _
-    (an-answer (width w) (height w) (raster w) _ (black-count p)) (c .write-points .ensures)
+    (an-answer (width w) (height w) (raster w) _ (black-count p)) (c .write .ensures)
 
 enum-known-number : tie.Need-enum-known-number
 enum-known-number c = search needs
@@ -107,7 +108,7 @@ returns-4 : tie.Need-returns-4
 returns-4 c = let n = c .before .before in
     let w = n .before .before .before .before in
     promised _ _
-    (reading w ∙ raster-fault (width w) (height w) (raster w) _ _ (sym (n .number .given .1) ∙ n .before .before .check-pixels .ensures))
+    (reading w ∙ raster-fault (width w) (height w) (raster w) _ _ (sym (n .number .given .1) ∙ n .before .before .check2 .ensures))
     _ _ _
     (c .refused3 .ensures) refl
 
@@ -121,7 +122,7 @@ returns-5 : tie.Need-returns-5
 returns-5 c = let p = c .before .before in
     let t = p .before .before .before in
     promised _ _
-    (bad-header (bytes (t .before)) (few (t .before)) (begins-so t) _ (sym (p .before .before .check-header .ensures) ∙ p .place .given .1))
+    (bad-header (bytes (t .before)) (few (t .before)) (begins-so t) _ (sym (p .before .before .check .ensures) ∙ p .place .given .1))
     _ _ _
     (c .refused4 .ensures) refl
 
@@ -139,14 +140,14 @@ read-spec =
     refused-requires
     returns
     begins-requires
-    check-header-requires
+    check-requires
     enum-known-width
     mul-pixels
-    check-pixels-requires
+    check-requires-2
     enum-known-points
     refused-requires-2
     returns-2
-    write-points-requires
+    write-requires
     returns-3
     enum-known-number
     refused-requires-3

@@ -1,13 +1,12 @@
--- `hull::hull` meets its contract: each tier has space enough. Assumes nothing.
+-- `hull::hull` meets its contract: no grain has more missing points than the range has points. Assumes nothing.
+use native.Mathlib.Omega.{arith}
 use borrow.Author.Needs.{needs}
+use Rattle.hull.proofs.Hulling.{without-limit}
 use Rattle.hull.proofs.hull.Statement.{statement}
 use Rattle.hull.proofs.hull.Tie as tie
 
-tier-requires : tie.Need-tier-requires
-tier-requires c κs = search needs
-
-hull-few-requires : tie.Need-hull-few-requires
-hull-few-requires c κs = c .before .before .before .tier .ensures .few (c .before .before .if1 .taken)
+within-requires : tie.Need-within-requires
+within-requires c κs = search needs
 
 same-length : tie.Need-same-length
 same-length c = search needs
@@ -16,46 +15,7 @@ same-length-2 : tie.Need-same-length-2
 same-length-2 c = search needs
 
 returns : tie.Need-returns
-returns c = search needs
-
-hull-some-requires : tie.Need-hull-some-requires
-hull-some-requires c κs = c .before .before .before .before .tier .ensures .some (c .before .before .if2 .taken)
-
-same-length-3 : tie.Need-same-length-3
-same-length-3 c = search needs
-
-same-length-4 : tie.Need-same-length-4
-same-length-4 c = search needs
-
-returns-2 : tie.Need-returns-2
-returns-2 c = search needs
-
-hull-many-requires : tie.Need-hull-many-requires
-hull-many-requires c κs = search needs
-
-same-length-5 : tie.Need-same-length-5
-same-length-5 c = search needs
-
-same-length-6 : tie.Need-same-length-6
-same-length-6 c = search needs
-
-returns-3 : tie.Need-returns-3
-returns-3 c = search needs
+returns c = without-limit _ _ _ _ _ _ _ (omega arith) (c .before .before .within .ensures)
 
 pub hull-spec : {M : Type 1} → statement M
-hull-spec =
-    tie.close
-    (tie.spec
-    tier-requires
-    hull-few-requires
-    same-length
-    same-length-2
-    returns
-    hull-some-requires
-    same-length-3
-    same-length-4
-    returns-2
-    hull-many-requires
-    same-length-5
-    same-length-6
-    returns-3)
+hull-spec = tie.close (tie.spec within-requires same-length same-length-2 returns)

@@ -13,33 +13,19 @@ find-requires c κs = search needs
 same-length : tie.Need-same-length
 same-length c = search needs
 
-same-length-2 : tie.Need-same-length-2
-same-length-2 c = search needs
-
-same-length-3 : tie.Need-same-length-3
-same-length-3 c = search needs
-
 returns : tie.Need-returns
-returns c = let f = c .before .before .before .before .before .before .before .find in
-    order-declined _ (f .result .number) (f .result .place) (f .result .points) (c .if1 .taken) (f .ensures)
+returns c = let f = c .before .before .before .find in order-declined _ (f .result .number) (f .result .place) (f .result .points) (c .if1 .taken) (f .ensures)
 
 -- the list is accepted: what `find` tells of it
 found : (c : tie.Else1)
-    → FoundKeys (now (c .before .before .before .before .before .before .before .before .before .before .before .before .before .before .args .list)) (c .before .before .before .before .before .before .before .find .result)
-    (c .before .before .before .before .before .before .before .find .last .1 .1 .1 .0)
-found c = found-keys (c .if1 .left) (c .before .before .before .before .before .before .before .find .ensures)
+    → let f = c .before .before .before in FoundKeys (now (f .before .before .before .args .list)) (f .find .result) (f .find .last .1 .0)
+found c = found-keys (c .if1 .left) (c .before .before .before .find .ensures)
 
 declined-requires : tie.Need-declined-requires
 declined-requires c κs = search needs
 
-same-length-4 : tie.Need-same-length-4
-same-length-4 c = search needs
-
-same-length-5 : tie.Need-same-length-5
-same-length-5 c = search needs
-
-same-length-6 : tie.Need-same-length-6
-same-length-6 c = search needs
+same-length-2 : tie.Need-same-length-2
+same-length-2 c = search needs
 
 returns-2 : tie.Need-returns-2
 returns-2 c = order-as (c .declined .ensures) (order-small _ (found (c .before .before)) (c .before .if2 .taken))
@@ -54,17 +40,11 @@ write-requires : tie.Need-write-requires
 write-requires c κs = let f = found (c .before .before .before) in
     (f .keys-of .below, omega (arith, f .long, c .before .before .if2 .left))
 
-same-length-7 : tie.Need-same-length-7
-same-length-7 c = search needs
+same-length-3 : tie.Need-same-length-3
+same-length-3 c = search needs
 
-same-length-8 : tie.Need-same-length-8
-same-length-8 c = search needs
-
-same-length-9 : tie.Need-same-length-9
-same-length-9 c = search needs
-
-same-length-10 : tie.Need-same-length-10
-same-length-10 c = search needs
+same-length-4 : tie.Need-same-length-4
+same-length-4 c = search needs
 
 returns-3 : tie.Need-returns-3
 returns-3 c = let e = c .before .before .before .before in
@@ -76,19 +56,13 @@ order-in-spec =
     (tie.spec
     find-requires
     same-length
-    same-length-2
-    same-length-3
     returns
     declined-requires
-    same-length-4
-    same-length-5
-    same-length-6
+    same-length-2
     returns-2
     slice-reshare-prefix-write
     slice-aggregate-write
     write-requires
-    same-length-7
-    same-length-8
-    same-length-9
-    same-length-10
+    same-length-3
+    same-length-4
     returns-3)

@@ -1,34 +1,45 @@
--- `pick::count` meets its contract: a turn of the loop adds what one edge gains and loses. Assumes nothing.
-use mathlib.Core.Path.{_≡_}
-use Prim.Native.Nat.{ℕ, _+_, _-_, _*_}
+-- `pick::count` meets its contract: a turn of the loop adds one edge. Assumes nothing.
+use Prim.Native.Nat.{_-_, _<_}
+use mathlib.Core.Path.{refl}
 use native.Mathlib.Omega.{arith}
 use borrow.Author.Needs.{needs}
 use denote.Ref.{now}
-use Rattle.packed.specs.Corners.{HullOf, CountOf}
-use Rattle.pick.proofs.Sums.{Summed, none-counted, few-corners, summed-none, summed-more, summed-all}
+use lib.ListN.{length}
+use Rattle.packed.specs.Corners.{Cornered}
+use Rattle.pick.proofs.Sums.{Summed, none-counted, summed-none, summed-small, summed-more, summed-order, summed-half}
 use Rattle.pick.proofs.count.Statement.{statement}
 use Rattle.pick.proofs.count.Tie as tie
 
 abbrev Inv-loop : tie.InvT-loop
-Inv-loop corners n before₀ gained₀ lost₀ i₀ before gained lost i = Summed corners before gained lost i
+Inv-loop corners n last edges₀ i₀ edges i = Summed corners edges i
 
 abbrev μ-loop : tie.MeasureT-loop
-μ-loop corners n before₀ gained₀ lost₀ i₀ before gained lost i = n - i
+μ-loop corners n last edges₀ i₀ edges i = n - i
 
 returns : tie.Need-returns Inv-loop μ-loop
 returns c = none-counted _ (c .before .before .pre) (omega arith)
 
-sub-before : tie.Need-sub-before Inv-loop μ-loop
-sub-before c = search needs
+-- the corners are a corner list, and there are some
+listed : (c : tie.Else1 Inv-loop μ-loop) → Cornered (now (c .before .before .args .corners))
+listed c = c .before .before .pre
 
-mul-before : tie.Need-mul-before Inv-loop μ-loop
-mul-before c = search needs
+some : (c : tie.Else1 Inv-loop μ-loop) → 0 < length (now (c .before .before .args .corners))
+some c = omega arith
 
-shared-slice-read-before : tie.Need-shared-slice-read-before Inv-loop μ-loop
-shared-slice-read-before c = search needs
+sub-last : tie.Need-sub-last Inv-loop μ-loop
+sub-last c = search needs
+
+mul-last : tie.Need-mul-last Inv-loop μ-loop
+mul-last c = search needs
+
+shared-slice-read-last : tie.Need-shared-slice-read-last Inv-loop μ-loop
+shared-slice-read-last c = search needs
+
+no-edge-requires : tie.Need-no-edge-requires Inv-loop μ-loop
+no-edge-requires c κs = search needs
 
 loop-holds : tie.Need-loop-holds Inv-loop μ-loop
-loop-holds c = summed-none _ (c .before .before .before .pre) (omega arith)
+loop-holds c = let e = c .before .before in summed-none (listed e) (some e) _ (omega (arith, some e)) _ _ refl refl _ (c .no-edge .ensures)
 
 mul-corner : tie.Need-mul-corner Inv-loop μ-loop
 mul-corner c = search needs
@@ -36,19 +47,10 @@ mul-corner c = search needs
 shared-slice-read-corner : tie.Need-shared-slice-read-corner Inv-loop μ-loop
 shared-slice-read-corner c = search needs
 
-gain-requires : tie.Need-gain-requires Inv-loop μ-loop
-gain-requires c κs = c .before .before .before .before .before .before .pre .below (c .before .before .loop .i) (omega arith)
-
-add-gained : tie.Need-add-gained Inv-loop μ-loop
-add-gained c = let l = c .before .before .before in
-    omega (arith, few-corners _ (l .before .before .before .before .pre), l .loop .inv .few-gained, c .gain .ensures .1)
-
-loss-requires : tie.Need-loss-requires Inv-loop μ-loop
-loss-requires c κs = c .before .before .before .loop .inv .below
-
-add-lost : tie.Need-add-lost Inv-loop μ-loop
-add-lost c = let l = c .before .before .before .before in
-    omega (arith, few-corners _ (l .before .before .before .before .pre), l .loop .inv .few-lost, c .loss .ensures .1)
+with-edge-requires : tie.Need-with-edge-requires Inv-loop μ-loop
+with-edge-requires c κs = let e = c .before .before .before .before .before in
+    let below = listed e .below _ (c .before .loop-test .taken) in
+    (summed-small (listed e) (some e) (c .before .before .loop .inv), omega arith, omega (arith, below))
 
 add-i : tie.Need-add-i Inv-loop μ-loop
 add-i c = omega arith
@@ -57,21 +59,13 @@ loop-less : tie.Need-loop-less Inv-loop μ-loop
 loop-less c = omega arith
 
 loop-again : tie.Need-loop-again Inv-loop μ-loop
-loop-again c = let l = c .before .before .before .before in
-    summed-more _ (l .before .before .before .before .pre) (omega arith) _ _ _ _ (l .loop .inv) (omega arith) _ _ (c .before .gain .ensures) (c .loss .ensures)
+loop-again c = let e = c .before .before .before .before .before .before in summed-more (listed e) (some e) (c .before .before .before .loop .inv) (c .before .before .loop-test .taken) _ (omega arith) _ (c .with-edge .ensures)
 
--- what the loop leaves is twice the count
-whole : (c : tie.After-loop Inv-loop μ-loop) → let l = c .before in
-    let corners = now (l .before .before .before .before .args .corners) in
-    (n : ℕ) × CountOf (HullOf corners) n × (l .loop .gained ≡ 2 * n + l .loop .lost)
-whole c = let l = c .before in
-    summed-all _ (l .before .before .before .before .pre) (omega arith) _ _ _ _ (l .loop .inv) (omega arith)
-
-sub-result : tie.Need-sub-result Inv-loop μ-loop
-sub-result c = omega (arith, whole c .2)
+half-requires : tie.Need-half-requires Inv-loop μ-loop
+half-requires c κs = let e = c .before .before .before .before in summed-order (listed e) (some e) (c .before .loop .inv) (omega arith)
 
 returns-2 : tie.Need-returns-2 Inv-loop μ-loop
-returns-2 c = let r = whole c in (r .1 .0, r .1 .1, omega (arith, r .1 .2, r .2))
+returns-2 c = let e = c .before .before .before .before .before in summed-half (listed e) (some e) (c .before .before .loop .inv) (omega arith) _ (c .half .ensures)
 
 pub count-spec : {M : Type 1} → statement M
 count-spec =
@@ -80,18 +74,16 @@ count-spec =
     Inv-loop
     μ-loop
     returns
-    sub-before
-    mul-before
-    shared-slice-read-before
+    sub-last
+    mul-last
+    shared-slice-read-last
+    no-edge-requires
     loop-holds
     mul-corner
     shared-slice-read-corner
-    gain-requires
-    add-gained
-    loss-requires
-    add-lost
+    with-edge-requires
     add-i
     loop-less
     loop-again
-    sub-result
+    half-requires
     returns-2)

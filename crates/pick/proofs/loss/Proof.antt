@@ -1,22 +1,15 @@
 -- `pick::loss` meets its contract: a column times a row is small. Assumes nothing.
+use mathlib.Core.Path.{sym}
 use native.Mathlib.Omega.{arith}
-use borrow.Author.Needs.{needs}
-use mathlib.Core.Path.{refl}
-use Rattle.pick.proofs.Sums.{column-times-row}
+use Rattle.pick.proofs.Sums.{loss-of, column-times-row}
 use Rattle.pick.proofs.loss.Statement.{statement}
 use Rattle.pick.proofs.loss.Tie as tie
 
-cast-result : tie.Need-cast-result
-cast-result c = search needs
-
-cast-result-2 : tie.Need-cast-result-2
-cast-result-2 c = search needs
-
 mul-result : tie.Need-mul-result
-mul-result c = omega (arith, column-times-row (c .args .b) (c .args .a) (c .pre))
+mul-result c = omega (arith, column-times-row (c .args .bx) (c .args .ay) (c .pre .2) (c .pre .1))
 
 returns : tie.Need-returns
-returns c = (refl, omega (arith, column-times-row (c .args .b) (c .args .a) (c .pre)))
+returns c = (sym (loss-of (c .args .ax) (c .args .ay) (c .args .bx) (c .args .by) (c .pre .0) (c .pre .2)), omega (arith, column-times-row (c .args .bx) (c .args .ay) (c .pre .2) (c .pre .1)))
 
 pub loss-spec : {M : Type 1} → statement M
-loss-spec = tie.close (tie.spec cast-result cast-result-2 mul-result returns)
+loss-spec = tie.close (tie.spec mul-result returns)

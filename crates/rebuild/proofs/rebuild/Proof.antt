@@ -1,72 +1,30 @@
--- `rebuild::rebuild` meets its contract: refusals 1 to 3, and each tier has space enough. Assumes nothing.
-use mathlib.Core.List.{List}
-use native.Mathlib.Omega.{arith}
+-- `rebuild::rebuild` meets its contract: what was foreseen is written, or nothing is. Assumes nothing.
 use borrow.Author.Needs.{needs}
-use denote.Ref.{now}
-use lib.IntN.{ℤ}
-use Rattle.lattice.proofs.Numbers.{points-length}
-use Rattle.rebuild.specs.Looking.{Taken}
-use Rattle.rebuild.proofs.Rebuilding.{lists-declined, lists-taken, lists-passed}
 use Rattle.rebuild.proofs.rebuild.Statement.{statement}
 use Rattle.rebuild.proofs.rebuild.Tie as tie
+use Rattle.rebuild.proofs.Rebuilding.{rebuilt-declined, rebuilt-written}
 
-refusal-of-lists-requires : tie.Need-refusal-of-lists-requires
-refusal-of-lists-requires c κs = search needs
+refusal-requires : tie.Need-refusal-requires
+refusal-requires c κs = search needs
 
--- both lists and the room
-abbrev corners-of : tie.After-refusal-of-lists → List ℤ
-corners-of c = now (c .before .args .corners)
-
-abbrev missing-of : tie.After-refusal-of-lists → List ℤ
-missing-of c = now (c .before .args .missing)
-
-abbrev room-of : tie.After-refusal-of-lists → List ℤ
-room-of c = now (c .before .args .room)
-
-returns : tie.Need-returns
-returns c = let l = c .before in
-    let f = l .refusal-of-lists in
-    lists-declined (corners-of l) (missing-of l) (room-of l) (f .result .number) (f .result .place) (f .result .points) (f .ensures) (c .if1 .taken)
-
-taken : (c : tie.Else1) → Taken (corners-of (c .before)) (missing-of (c .before))
-taken c = let l = c .before in
-    let f = l .refusal-of-lists in
-    lists-taken (corners-of l) (missing-of l) (room-of l) (f .result .number) (f .result .place) (f .result .points) (f .ensures) (c .if1 .left)
-
-rebuild-few-requires : tie.Need-rebuild-few-requires
-rebuild-few-requires c κs = let e = c .before .before in
-    (taken e, omega (arith, points-length (corners-of (e .before)), c .before .if2 .taken))
+write-requires : tie.Need-write-requires
+write-requires c κs = let t = c .before in
+    let y = t .before .before .refusal .ensures .passed (t .if1 .taken) in
+    (y .walked, y .takes)
 
 same-length : tie.Need-same-length
 same-length c = search needs
 
-returns-2 : tie.Need-returns-2
-returns-2 c = let e = c .before .before .before .before in
-    let l = e .before in
-    let f = l .refusal-of-lists in
-    lists-passed (corners-of l) (missing-of l) (room-of l) (f .result .number) (f .result .place) (f .result .points) (f .ensures) (e .if1 .left) _ _ (c .before .rebuild-few .ensures)
-
-rebuild-many-requires : tie.Need-rebuild-many-requires
-rebuild-many-requires c κs = taken (c .before .before)
+returns : tie.Need-returns
+returns c = let w = c .before in
+    let t = w .before .before in
+    rebuilt-written (t .before .before .refusal .ensures) (t .if1 .taken) _ _ (w .write .ensures)
 
 same-length-2 : tie.Need-same-length-2
 same-length-2 c = search needs
 
-returns-3 : tie.Need-returns-3
-returns-3 c = let e = c .before .before .before .before in
-    let l = e .before in
-    let f = l .refusal-of-lists in
-    lists-passed (corners-of l) (missing-of l) (room-of l) (f .result .number) (f .result .place) (f .result .points) (f .ensures) (e .if1 .left) _ _ (c .before .rebuild-many .ensures)
+returns-2 : tie.Need-returns-2
+returns-2 c = rebuilt-declined (c .before .before .refusal .ensures) (c .if1 .left)
 
 pub rebuild-spec : {M : Type 1} → statement M
-rebuild-spec =
-    tie.close
-    (tie.spec
-    refusal-of-lists-requires
-    returns
-    rebuild-few-requires
-    same-length
-    returns-2
-    rebuild-many-requires
-    same-length-2
-    returns-3)
+rebuild-spec = tie.close (tie.spec refusal-requires write-requires same-length returns same-length-2 returns-2)

@@ -11,7 +11,7 @@ use lib.ListN.{getD}
 use lib.IntN.{pos}
 use Rattle.packed.proofs.Tests.{read-back}
 use Rattle.report.specs.Report.{no}
-use Rattle.report.specs.Grain.{reported}
+use Rattle.report.specs.Answer.{reported}
 
 returns : tie.Need-returns
 returns c = inl (c .if1 .taken, refl)

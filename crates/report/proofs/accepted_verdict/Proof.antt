@@ -8,7 +8,7 @@ use native.Mathlib.Omega.{arith}
 use borrow.Author.Needs.{needs}
 use Rattle.packed.proofs.Tests.{read-back}
 use Rattle.report.specs.Report.{no}
-use Rattle.report.specs.Grain.{judged}
+use Rattle.report.specs.Answer.{judged}
 
 column-requires : tie.Need-column-requires
 column-requires c κs = search needs

@@ -1,21 +1,25 @@
 -- `stretch::first_rising` meets its contract: of the first two edges at most one lies in its row. Assumes nothing.
-use borrow.Author.Needs.{needs}
 use Rattle.stretch.proofs.first_rising.Statement.{statement}
 use Rattle.stretch.proofs.first_rising.Tie as tie
+use native.Mathlib.Omega.{arith}
+use Rattle.stretch.proofs.Rowing.{corner-in-row}
 use Rattle.stretch.proofs.Sides.{two-corners, rising-first, rising-second}
 
-shared-slice-read-if1 : tie.Need-shared-slice-read-if1
-shared-slice-read-if1 c = search needs
+row-at-requires : tie.Need-row-at-requires
+row-at-requires c κs = corner-in-row (c .pre .0) 0 (omega (arith, two-corners _ _ _ (c .pre .0 .peaked) (c .pre .1)))
 
-shared-slice-read-if1-2 : tie.Need-shared-slice-read-if1-2
-shared-slice-read-if1-2 c = two-corners _ _ _ (c .before .before .pre .0) (c .before .before .pre .1)
+row-at-requires-2 : tie.Need-row-at-requires-2
+row-at-requires-2 c κs = let a = c .before in corner-in-row (a .pre .0) 1 (two-corners _ _ _ (a .pre .0 .peaked) (a .pre .1))
 
 returns : tie.Need-returns
-returns c = let a = c .before .before .before in rising-second _ _ _ (a .pre .0) (a .pre .1) (c .if1 .taken)
+returns c = let k = c .before .before in
+    let a = k .before in
+    rising-second _ _ _ (a .pre .0 .peaked) (a .pre .1) (omega (arith, k .row-at .ensures .2, c .before .row-at2 .ensures .2, c .if1 .taken))
 
 returns-2 : tie.Need-returns-2
-returns-2 c = let a = c .before .before .before in rising-first _ _ _ (a .pre .0) (a .pre .1) (c .if1 .left)
+returns-2 c = let k = c .before .before in
+    let a = k .before in
+    rising-first _ _ _ (a .pre .0 .peaked) (a .pre .1) (λ e. c .if1 .left (omega (arith, e, k .row-at .ensures .2, c .before .row-at2 .ensures .2)))
 
 pub first-rising-spec : {M : Type 1} → statement M
-first-rising-spec =
-    tie.close (tie.spec shared-slice-read-if1 shared-slice-read-if1-2 returns returns-2)
+first-rising-spec = tie.close (tie.spec row-at-requires row-at-requires-2 returns returns-2)

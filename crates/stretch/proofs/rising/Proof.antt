@@ -5,11 +5,14 @@ use native.Mathlib.Omega.{arith}
 use denote.Ref.{now}
 use lib.ListN.{length}
 use Prim.Native.Nat.{_-_, _+_, _<_}
+use Rattle.packed.specs.Corners.{keysOf}
+use Rattle.packed.proofs.KeysOf.{keys-length}
 use Rattle.stretch.specs.Stretch.{RisesFrom}
+use Rattle.stretch.proofs.Rowing.{corner-in-row}
 use Rattle.stretch.proofs.Sides.{rises-on, rises-here}
 
 abbrev Inv-loop : tie.InvT-loop
-Inv-loop corners peak y near i₀ i = RisesFrom corners peak y i
+Inv-loop corners peak y near i₀ i = RisesFrom (keysOf corners) peak y i
 
 abbrev μ-loop : tie.MeasureT-loop
 μ-loop corners peak y near i₀ i = peak - i
@@ -17,31 +20,28 @@ abbrev μ-loop : tie.MeasureT-loop
 loop-holds : tie.Need-loop-holds Inv-loop μ-loop
 loop-holds c = c .pre .1
 
-inside : (c : tie.At-loop Inv-loop μ-loop) → c .loop .i + 1 < length (now (c .before .args .corners))
-inside c = omega (arith, c .loop .inv .before, c .before .pre .0 .peaks .inside)
+inside : (c : tie.At-loop Inv-loop μ-loop) → c .loop .i + 1 < length (keysOf (now (c .before .args .corners)))
+inside c = omega (arith, c .loop .inv .before, c .before .pre .0 .peaked .peaks .inside)
 
-add-if1 : tie.Need-add-if1 Inv-loop μ-loop
-add-if1 c = omega (arith, inside c)
+add-row-at : tie.Need-add-row-at Inv-loop μ-loop
+add-row-at c = omega (arith, inside c, keys-length (now (c .before .args .corners)))
 
-mul-if1 : tie.Need-mul-if1 Inv-loop μ-loop
-mul-if1 c = omega (arith, inside c)
-
-shared-slice-read-if1 : tie.Need-shared-slice-read-if1 Inv-loop μ-loop
-shared-slice-read-if1 c = inside (c .before)
+row-at-requires : tie.Need-row-at-requires Inv-loop μ-loop
+row-at-requires c κs = corner-in-row (c .before .pre .0) (c .loop .i + 1) (inside c)
 
 add-i : tie.Need-add-i Inv-loop μ-loop
-add-i c = omega (arith, inside (c .before .before))
+add-i c = let l = c .before .before in omega (arith, inside l, keys-length (now (l .before .args .corners)))
 
 loop-less : tie.Need-loop-less Inv-loop μ-loop
 loop-less c = omega (arith, c .before .before .loop .inv .before)
 
 loop-again : tie.Need-loop-again Inv-loop μ-loop
 loop-again c = let l = c .before .before in
-    rises-on _ _ _ (l .before .pre .0) _ (l .loop .inv) (c .if1 .taken)
+    rises-on _ _ _ (l .before .pre .0 .peaked) _ (l .loop .inv) (omega (arith, c .before .row-at .ensures .2, c .if1 .taken))
 
 returns : tie.Need-returns Inv-loop μ-loop
 returns c = let l = c .before .before in
-    (l .loop .inv .before, rises-here _ _ _ (l .before .pre .0) _ (l .loop .inv) (c .if1 .left))
+    (l .loop .inv .before, rises-here _ _ _ (l .before .pre .0 .peaked) _ (l .loop .inv) (omega (arith, c .before .row-at .ensures .2, c .if1 .left)))
 
 pub rising-spec : {M : Type 1} → statement M
 rising-spec =
@@ -50,9 +50,8 @@ rising-spec =
     Inv-loop
     μ-loop
     loop-holds
-    add-if1
-    mul-if1
-    shared-slice-read-if1
+    add-row-at
+    row-at-requires
     add-i
     loop-less
     loop-again

@@ -2,117 +2,105 @@
 use borrow.Author.Needs.{needs}
 use Rattle.stretch.proofs.start.Statement.{statement}
 use Rattle.stretch.proofs.start.Tie as tie
+use mathlib.Core.Path.{_≡_, sym, subst}
+use mathlib.Core.List.{List}
+use Prim.Native.Nat.{ℕ, _+_, _*_, _-_, _/_, _<_}
 use native.Mathlib.Omega.{arith}
 use denote.Ref.{now}
-use Rattle.stretch.specs.Stretch.{Tall}
-use Rattle.stretch.proofs.Sides.{falling-last}
-use Rattle.stretch.proofs.Following.{rising-slope, falling-slope, right-of, left-of}
+use lib.ListN.{length, getD}
+use Rattle.packed.specs.Packed.{side}
+use Rattle.packed.specs.Corners.{keysOf}
+use Rattle.packed.proofs.KeysOf.{keys-length}
+use Rattle.stretch.specs.Stretch.{HasRow, Tall, Rises, Falls, Only}
+use Rattle.stretch.proofs.Rowing.{corner-in-row}
+use Rattle.stretch.proofs.Sides.{two-corners, falling-last}
+use Rattle.stretch.proofs.Following.{rising-way, closing-way, right-of, left-of}
 
-shared-slice-read-y : tie.Need-shared-slice-read-y
-shared-slice-read-y c = search needs
+-- the corners, packed; row y is their first
+abbrev keys : tie.Start → List ℕ
+keys c = keysOf (now (c .args .corners))
 
-mul-if1 : tie.Need-mul-if1
-mul-if1 c = search needs
+is-row : (c : tie.Start) → HasRow (now (c .args .corners)) (c .args .peak) (c .args .y)
+is-row c = subst (HasRow (now (c .args .corners)) (c .args .peak)) (sym (c .pre .1)) (c .pre .0)
 
-shared-slice-read-if1 : tie.Need-shared-slice-read-if1
-shared-slice-read-if1 c = search needs
-
-shared-slice-read-only : tie.Need-shared-slice-read-only
-shared-slice-read-only c = search needs
+column-at-requires : tie.Need-column-at-requires
+column-at-requires c κs = let a = c .before in corner-in-row (a .pre .0) 0 (omega (arith, a .pre .0 .peaked .peaks .inside))
 
 only-requires : tie.Need-only-requires
 only-requires c κs = search needs
 
-mul-only : tie.Need-mul-only
-mul-only c = search needs
-
-shared-slice-read-only-2 : tie.Need-shared-slice-read-only-2
-shared-slice-read-only-2 c = search needs
+column-at-requires-2 : tie.Need-column-at-requires-2
+column-at-requires-2 c κs = let a = c .before .before .before in corner-in-row (a .pre .0) _ (a .pre .0 .peaked .peaks .inside)
 
 only-requires-2 : tie.Need-only-requires-2
 only-requires-2 c κs = search needs
 
 returns : tie.Need-returns
-returns c = let e = c .before .before .before .before in record {
-  left = record { tall = λ t. absurd (omega (arith, t, e .if1 .taken)); only = λ n. c .before .before .only .ensures };
-  right = record { tall = λ t. absurd (omega (arith, t, e .if1 .taken)); only = λ n. c .only2 .ensures };
-}
+returns c = let l = c .before .before in
+    let t = l .before .before in
+    let a = t .before in
+    let e : side * a .args .y + l .before .column-at .result ≡ getD (keys a) 0 0 = omega (arith, a .pre .1, l .before .column-at .ensures .2) in
+    let f : side * a .args .y + c .before .column-at2 .result ≡ getD (keys a) (a .args .peak) 0 = omega (arith, t .if1 .taken, a .pre .2, c .before .column-at2 .ensures .2) in
+    record {
+      left = record { tall = λ u. absurd (omega (arith, u, a .pre .1, a .pre .2, t .if1 .taken)); only = λ n. subst (λ m. Only m (l .only .result)) e (l .only .ensures) };
+      right = record { tall = λ u. absurd (omega (arith, u, a .pre .1, a .pre .2, t .if1 .taken)); only = λ n. subst (λ m. Only m (c .only2 .result)) f (c .only2 .ensures) };
+    }
 
-tall : (c : tie.Else1) → let a = c .before .before .before .before in Tall (now (a .args .corners)) (a .args .peak)
-tall c = let a = c .before .before .before .before in omega (arith, c .if1 .left, a .pre .to-row)
+tall : (c : tie.Else1) → Tall (keys (c .before)) (c .before .args .peak)
+tall c = let a = c .before in omega (arith, c .if1 .left, a .pre .1, a .pre .2, a .pre .0 .peaked .to-row)
 
 first-rising-requires : tie.Need-first-rising-requires
-first-rising-requires c κs = (c .before .before .before .before .pre, tall c)
+first-rising-requires c κs = (c .before .pre .0, tall c)
+
+-- there is more than one corner; the edge from the last falls to the first
+several : (c : tie.Else1) → 1 < length (keys (c .before))
+several c = two-corners _ _ _ (c .before .pre .0 .peaked) (tall c)
 
 sub-falling : tie.Need-sub-falling
-sub-falling c = search needs
+sub-falling c = let e = c .before in omega (arith, several e, keys-length (now (e .before .args .corners)))
 
-shared-slice-read-climb : tie.Need-shared-slice-read-climb
-shared-slice-read-climb c = search needs
-
-mul-climb : tie.Need-mul-climb
-mul-climb c = search needs
-
-shared-slice-read-climb-2 : tie.Need-shared-slice-read-climb-2
-shared-slice-read-climb-2 c = search needs
+falls : (c : tie.Else1) → let a = c .before in Falls (keys a) (a .args .y) (length (now (a .args .corners)) / 2 - 1) (getD (keys a) 0 0)
+falls c = let a = c .before in
+    let e : length (keys a) - 1 ≡ length (now (a .args .corners)) / 2 - 1 = omega (arith, keys-length (now (a .args .corners))) in
+    subst (λ n. Falls (keys a) n (length (now (a .args .corners)) / 2 - 1) (getD (keys a) 0 0)) (sym (a .pre .1))
+    (subst (λ i. Falls (keys a) (getD (keys a) 0 0 / side) i (getD (keys a) 0 0)) e (falling-last _ _ _ (a .pre .0 .peaked) (tall c)))
 
 climb-requires : tie.Need-climb-requires
-climb-requires c κs = let e = c .before .before .before in
-    let a = e .before .before .before .before in
-    (falling-slope _ _ _ (a .pre) _ _ (falling-last _ _ _ (a .pre) (tall e)), omega arith)
+climb-requires c κs = (closing-way (is-row (c .before .before)) _ (falls (c .before)), omega arith)
 
-mul-climb-2 : tie.Need-mul-climb-2
-mul-climb-2 c = search needs
-
-shared-slice-read-climb-3 : tie.Need-shared-slice-read-climb-3
-shared-slice-read-climb-3 c = search needs
+-- the edge that rises
+rises : (c : tie.After-first-rising) → let a = c .before .before in Rises (keys a) (a .args .y) (c .first-rising .result)
+rises c = let a = c .before .before in subst (λ n. Rises (keys a) n (c .first-rising .result)) (sym (a .pre .1)) (c .first-rising .ensures .rises)
 
 add-climb : tie.Need-add-climb
 add-climb c = search needs
 
-mul-climb-3 : tie.Need-mul-climb-3
-mul-climb-3 c = search needs
-
-shared-slice-read-climb-4 : tie.Need-shared-slice-read-climb-4
-shared-slice-read-climb-4 c = search needs
-
 climb-requires-2 : tie.Need-climb-requires-2
-climb-requires-2 c κs = let f = c .before .before .before .before .before in
-    let a = f .before .before .before .before .before in
-    (rising-slope _ _ _ (a .pre) _ (f .first-rising .ensures .rises), omega arith)
+climb-requires-2 c κs = let f = c .before in (rising-way (is-row (f .before .before)) _ (rises f), omega arith)
 
 returns-2 : tie.Need-returns-2
-returns-2 c = let l = c .before .before .before in
-    let f = l .before .before .before in
-    let a = f .before .before .before .before .before in
+returns-2 c = let l = c .before in
+    let f = l .before in
+    let e = f .before in
+    let a = e .before in
+    let h = is-row a .peaked in
     record {
-      left = left-of _ _ _ (a .pre) _ _ (omega (arith, a .pre .peaks .inside)) (falling-last _ _ _ (a .pre) (tall (f .before))) (tall (f .before)) _ (l .climb .ensures .0) (l .climb .ensures .1);
-      right = right-of _ _ _ (a .pre) _ (f .first-rising .ensures .before) (f .first-rising .ensures .rises) (tall (f .before)) _ (c .climb2 .ensures .0) (c .climb2 .ensures .1);
+      left = left-of _ _ _ h _ _ (omega (arith, h .peaks .inside, keys-length (now (a .args .corners)))) (falls e) (tall e) _ (l .climb .ensures .0) (l .climb .ensures .1);
+      right = right-of _ _ _ h _ (f .first-rising .ensures .before) (rises f) (tall e) _ (c .climb2 .ensures .0) (c .climb2 .ensures .1);
     }
 
 pub start-spec : {M : Type 1} → statement M
 start-spec =
     tie.close
     (tie.spec
-    shared-slice-read-y
-    mul-if1
-    shared-slice-read-if1
-    shared-slice-read-only
+    column-at-requires
     only-requires
-    mul-only
-    shared-slice-read-only-2
+    column-at-requires-2
     only-requires-2
     returns
     first-rising-requires
     sub-falling
-    shared-slice-read-climb
-    mul-climb
-    shared-slice-read-climb-2
     climb-requires
-    mul-climb-2
-    shared-slice-read-climb-3
     add-climb
-    mul-climb-3
-    shared-slice-read-climb-4
     climb-requires-2
     returns-2)

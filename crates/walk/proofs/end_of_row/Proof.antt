@@ -12,8 +12,8 @@ use Rattle.lattice.specs.Point.{points, point}
 use Rattle.lattice.proofs.Numbers.{points-length}
 use Rattle.packed.proofs.Tests.{read-back}
 use Rattle.packed.proofs.Reading.{row-at, read-row}
-use Rattle.order.specs.Row.{RunsTo}
-use Rattle.order.proofs.RowLaws.{Running, running-none, running-stops}
+use Rattle.rows.specs.Row.{RunsTo}
+use Rattle.rows.proofs.RowLaws.{Running, running-none, running-stops}
 use Rattle.walk.proofs.Rows.{running-on}
 
 abbrev Inv-loop : tie.InvT-loop

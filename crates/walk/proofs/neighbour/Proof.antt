@@ -5,8 +5,9 @@ use Prim.Native.Nat.{_-_, _<_, _+_}
 use native.Mathlib.Omega.{arith}
 use denote.Ref.{now}
 use lib.ListN.{length}
-use Rattle.lattice.specs.Point.{points}
+use Rattle.lattice.specs.Point.{InRange, points}
 use Rattle.lattice.proofs.Numbers.{points-length}
+use Rattle.lattice.proofs.Places.{all-place}
 use Rattle.walk.specs.Walk.{Neighbour}
 
 abbrev Inv-loop : tie.InvT-loop
@@ -16,7 +17,7 @@ abbrev μ-loop : tie.MeasureT-loop
 μ-loop row i n first last₀ step₀ last step = n - i - step
 
 column-at-requires : tie.Need-column-at-requires Inv-loop μ-loop
-column-at-requires c κs = c .pre
+column-at-requires c κs = (c .pre .0, all-place InRange (points (now (c .args .row))) (c .pre .1) (c .args .i) (c .pre .0))
 
 cast-first : tie.Need-cast-first Inv-loop μ-loop
 cast-first c = omega arith
@@ -35,7 +36,8 @@ inside : (c : tie.In-loop Inv-loop μ-loop) → let a = c .before .before .befor
 inside c = omega (arith, points-length (now (c .before .before .before .args .row)), c .loop-test .taken)
 
 column-at-requires-2 : tie.Need-column-at-requires-2 Inv-loop μ-loop
-column-at-requires-2 c κs = (inside c, c .before .before .before .pre .1)
+column-at-requires-2 c κs = let a = c .before .before .before in
+    (inside c, all-place InRange (points (now (a .args .row))) (a .pre .1) (a .args .i + c .before .loop .step) (inside c))
 
 cast-if1 : tie.Need-cast-if1 Inv-loop μ-loop
 cast-if1 c = omega arith

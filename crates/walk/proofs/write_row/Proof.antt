@@ -7,8 +7,9 @@ use native.Mathlib.Omega.{arith}
 use borrow.Author.Needs.{needs}
 use denote.Ref.{now}
 use lib.ListN.{length}
-use Rattle.lattice.specs.Point.{InRange, points, All}
+use Rattle.lattice.specs.Point.{InRange, points, point, All}
 use Rattle.lattice.proofs.Numbers.{points-length}
+use Rattle.lattice.proofs.Places.{all-place}
 use Rattle.walk.specs.Walk.{columnAt}
 use Rattle.walk.proofs.Rows.{row-in-range}
 use Rattle.walk.proofs.Gaps.{Gapping, gapping-none, gapping-length, gapping-used, gapping-ends}
@@ -37,11 +38,14 @@ loop-holds c = gapping-none _ _ _ (c .before .before .pre .0) _
 ranged : (c : tie.At-loop Inv-loop μ-loop) → All InRange (points (now (c .before .before .before .args .row)))
 ranged c = row-in-range _ _ _ (c .before .before .before .pre .0) (c .before .before .before .pre .1)
 
+in-range : (c : tie.At-loop Inv-loop μ-loop) (i : ℕ) → let l = points (now (c .before .before .before .args .row)) in i < length l → InRange (point l i)
+in-range c i u = all-place InRange (points (now (c .before .before .before .args .row))) (ranged c) i u
+
 inside : (c : tie.In-loop Inv-loop μ-loop) → c .before .loop .i < length (points (now (c .before .before .before .before .args .row)))
 inside c = omega (arith, points-length (now (c .before .before .before .before .args .row)), c .loop-test .taken)
 
 column-at-requires : tie.Need-column-at-requires Inv-loop μ-loop
-column-at-requires c κs = (inside c, ranged (c .before))
+column-at-requires c κs = (inside c, in-range (c .before) _ (inside c))
 
 -- the room, as far as it is used, is as long as it was
 long : (c : tie.At-loop Inv-loop μ-loop) → length (c .loop .room) ≡ length (now (c .before .before .before .args .room))
@@ -99,7 +103,7 @@ neighbour-requires : tie.Need-neighbour-requires Inv-loop μ-loop
 neighbour-requires c κs = (inside (c .before .before .before .before), ranged (c .before .before .before .before .before))
 
 column-at-requires-2 : tie.Need-column-at-requires-2 Inv-loop μ-loop
-column-at-requires-2 c κs = (c .neighbour .ensures .upto, ranged (c .before .before .before .before .before .before))
+column-at-requires-2 c κs = let u = c .neighbour .ensures .upto in (u, in-range (c .before .before .before .before .before .before) _ u)
 
 add-x : tie.Need-add-x Inv-loop μ-loop
 add-x c = omega (arith, c .column-at2 .ensures .1)

@@ -3,7 +3,7 @@ use borrow.Author.Needs.{needs}
 use mathlib.Core.Path.{subst}
 use denote.Ref.{now}
 use Rattle.packed.proofs.Tests.{read-back}
-use Rattle.order.specs.Row.{RowEndsPromise}
+use Rattle.rows.specs.Row.{RowEndsPromise}
 use Rattle.grain.proofs.exports.grain_row_ends.Statement.{statement}
 use Rattle.grain.proofs.exports.grain_row_ends.Tie as tie
 

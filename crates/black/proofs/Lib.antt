@@ -1,0 +1,2 @@
+-- Laws of the rows of a picture.
+pub mod Rows

@@ -1,0 +1,2 @@
+-- What is found of a pixel's row.
+pub mod Row

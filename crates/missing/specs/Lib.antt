@@ -1,0 +1,2 @@
+-- What is looked for among the missing points.
+pub mod Missing

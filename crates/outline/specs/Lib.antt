@@ -1,0 +1,2 @@
+-- When a corner follows those before it.
+pub mod Follows

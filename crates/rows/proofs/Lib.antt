@@ -1,0 +1,3 @@
+-- Where a row begins and ends, and that both promises pin the outcome.
+pub mod RowLaws
+pub mod Pinned

@@ -1,0 +1,2 @@
+-- What Row ends and Row promise.
+pub mod Row
