@@ -5,34 +5,34 @@ use mir.ValLaws.{to_z_pos}
 use Rattle.netpbm.proofs.put.Statement.{statement}
 use Rattle.netpbm.proofs.put.Tie as tie
 
-cast-list : tie.Need-overflow-cast-list
+cast-list : tie.Need-overflow_cast-list
 cast-list c = search rules
 
-mul-list : tie.Need-overflow-mul-list
+mul-list : tie.Need-overflow_mul-list
 mul-list c = search rules
 
-mul-list-2 : tie.Need-overflow-mul-list-2
+mul-list-2 : tie.Need-offset_bounds-list-n
 mul-list-2 c = search rules
 
-slice-set-from-list : tie.Need-slice-set-from-list
+slice-set-from-list : tie.Need-bounds-list-n
 slice-set-from-list c = search rules
 
-cast-list-2 : tie.Need-overflow-cast-list-2
+cast-list-2 : tie.Need-overflow_cast-list-2
 cast-list-2 c = search rules
 
-mul-t7 : tie.Need-overflow-mul-t7
+mul-t7 : tie.Need-overflow_mul-n
 mul-t7 c = search rules
 
-add-t6 : tie.Need-overflow-add-t6
+add-t6 : tie.Need-overflow_add-n
 add-t6 c = search rules
 
-mul-t9 : tie.Need-overflow-mul-t9
+mul-t9 : tie.Need-offset_bounds-list-n-2
 mul-t9 c = search rules
 
-slice-set-from-list-2 : tie.Need-slice-set-from-list-2
+slice-set-from-list-2 : tie.Need-bounds-list-n-2
 slice-set-from-list-2 c = search rules
 
-same_length : tie.Need-same-length
+same_length : tie.Need-shape_of-list
 same_length c = search rules
 
 returns : tie.Need-returns

@@ -12,7 +12,7 @@ turn-requires : tie.Need-turn-requires
 turn-requires c κs = search rules
 
 returns : tie.Need-returns
-returns c = ap (λ z. lt_z (pos 0) z) (to_z-of_z w64 c.turn.result (record { sfits = c.turn.type-inv }) ∙ c.turn.ensures)
+returns c = ap (λ z. lt_z (pos 0) z) (to_z-of_z w64 c.turn.result (record { sfits = c.turn.type_inv }) ∙ c.turn.ensures)
 
-pub left-spec : {M : Type 1} → statement M
-left-spec = tie.close (tie.spec turn-requires returns)
+pub left_spec : {M : Type 1} → statement M
+left_spec = tie.close (tie.spec turn-requires returns)

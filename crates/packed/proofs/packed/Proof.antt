@@ -11,20 +11,20 @@ use Rattle.packed.proofs.packed.Tie as tie
 moved-requires : tie.Need-moved-requires
 moved-requires c κs = search rules
 
-mul-result : tie.Need-overflow-mul-result
+mul-result : tie.Need-overflow_mul-result
 mul-result c = search rules
 
 moved-requires-2 : tie.Need-moved-requires-2
 moved-requires-2 c κs = search rules
 
-add-result : tie.Need-overflow-add-result
+add-result : tie.Need-overflow_add-result
 add-result c = search rules
 
 returns : tie.Need-returns
 returns c = let s = c.before.before in
     let e : c.before.moved.result ≡ moved s.args.y = c.before.moved.ensures.0 ∙ ap moved (to_z-of_z w32 s.args.y s.ranges.y) in
-    let f : c.moved2.result ≡ moved s.args.x = c.moved2.ensures.0 ∙ ap moved (to_z-of_z w32 s.args.x s.ranges.x) in
-    (omega (arith, e, f), omega (arith, c.before.moved.ensures.1, c.moved2.ensures.1))
+    let f : c.moved-2.result ≡ moved s.args.x = c.moved-2.ensures.0 ∙ ap moved (to_z-of_z w32 s.args.x s.ranges.x) in
+    (omega (arith, e, f), omega (arith, c.before.moved.ensures.1, c.moved-2.ensures.1))
 
-pub packed-spec : {M : Type 1} → statement M
-packed-spec = tie.close (tie.spec moved-requires mul-result moved-requires-2 add-result returns)
+pub packed_spec : {M : Type 1} → statement M
+packed_spec = tie.close (tie.spec moved-requires mul-result moved-requires-2 add-result returns)
