@@ -3,11 +3,11 @@ use borrow.Author.Tests.{le-leb, lt-leb}
 use Rattle.csv_text.proofs.fit.Statement.{statement}
 use Rattle.csv_text.proofs.fit.Tie as tie
 
-returns : tie.Need-returns
-returns c = rw (le-leb _ _ c.if1.true)
+returns : tie.Need-returns-then-place-room
+returns c = rw (le-leb _ _ c.if-place-room.true)
 
-returns-2 : tie.Need-returns-2
-returns-2 c = rw (lt-leb _ _ c.if1.false)
+returns-2 : tie.Need-returns
+returns-2 c = rw (lt-leb _ _ c.if-place-room.false)
 
 pub fit_spec : {M : Type 1} → statement M
 fit_spec = tie.close (tie.spec returns returns-2)

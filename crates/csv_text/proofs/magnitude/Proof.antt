@@ -5,24 +5,24 @@ use Rattle.csv_text.proofs.Signs.{back, widens, turned_fits, turned_natural, tur
 use Rattle.csv_text.proofs.magnitude.Statement.{statement}
 use Rattle.csv_text.proofs.magnitude.Tie as tie
 
-cast-result : tie.Need-overflow-cast-result
-cast-result c = widens c.before.args.z c.before.ranges.z
+cast-result : tie.Need-overflow_cast-result
+cast-result c = widens c.args.z c.ranges.z
 
-sub-result : tie.Need-overflow-sub-result
-sub-result c = turned_fits c.before.args.z c.before.ranges.z c.if1.true
+sub-result : tie.Need-overflow_sub-result
+sub-result c = turned_fits c.args.z c.ranges.z c.if-z-lt0.true
 
-cast-result-2 : tie.Need-overflow-cast-result-2
-cast-result-2 c = turned_natural c.before.args.z c.before.ranges.z c.if1.true
+cast-result-2 : tie.Need-overflow_cast-result-then-z-lt0
+cast-result-2 c = turned_natural c.args.z c.ranges.z c.if-z-lt0.true
 
-returns : tie.Need-returns
-returns c = turned_magnitude c.before.args.z c.before.ranges.z c.if1.true
+returns : tie.Need-returns-then-z-lt0
+returns c = turned_magnitude c.args.z c.ranges.z c.if-z-lt0.true
 
-cast-result-3 : tie.Need-overflow-cast-result-3
-cast-result-3 c = other_natural c.before.args.z c.before.ranges.z c.if1.false
+cast-result-3 : tie.Need-overflow_cast-result-2
+cast-result-3 c = other_natural c.args.z c.ranges.z c.if-z-lt0.false
 
-returns-2 : tie.Need-returns-2
-returns-2 c = ap nat_abs (back c.before.args.z c.before.ranges.z)
+returns-2 : tie.Need-returns
+returns-2 c = ap nat_abs (back c.args.z c.ranges.z)
 
-pub magnitude-spec : {M : Type 1} → statement M
-magnitude-spec =
+pub magnitude_spec : {M : Type 1} → statement M
+magnitude_spec =
     tie.close (tie.spec cast-result sub-result cast-result-2 returns cast-result-3 returns-2)

@@ -5,24 +5,21 @@ use Rattle.csv_text.proofs.Promised.{promised}
 use Rattle.csv_text.proofs.refused.Statement.{statement}
 use Rattle.csv_text.proofs.refused.Tie as tie
 
-slice-aggregate-count-line : tie.Need-slice-aggregate-count-line
-slice-aggregate-count-line c = search rules
-
-count-line-requires : tie.Need-count-line-requires
+count-line-requires : tie.Need-count_line-end-requires
 count-line-requires c κs = search rules
 
 fit-requires : tie.Need-fit-requires
 fit-requires c κs = search rules
 
-same_length : tie.Need-same-length
+same_length : tie.Need-shape_of-out
 same_length c = search rules
 
 returns : tie.Need-returns
 returns c = let line = c.before.before.before in
     let s = line.before.before.before.before in
-    promised (refused_text s.args.number s.args.place) s.args.out.now _ _ line.count-line.ensures _ c.fit.ensures
+    promised (refused_text s.args.number s.args.place) s.args.out.now _ _ line.count_line-end.ensures _ c.fit.ensures
 
-pub refused-spec : {M : Type 1} → statement M
-refused-spec =
+pub refused_spec : {M : Type 1} → statement M
+refused_spec =
     tie.close
-    (tie.spec slice-aggregate-count-line count-line-requires fit-requires same_length returns)
+    (tie.spec count-line-requires fit-requires same_length returns)

@@ -11,34 +11,22 @@ use Rattle.csv_text.proofs.Promised.{promised}
 use Rattle.csv_text.proofs.write.Statement.{statement}
 use Rattle.csv_text.proofs.write.Tie as tie
 
-slice-aggregate-copy : tie.Need-slice-aggregate-copy
-slice-aggregate-copy c = search rules
-
-copy-requires : tie.Need-copy-requires
+copy-requires : tie.Need-copy-heading-requires
 copy-requires c κs = search rules
 
-slice-aggregate-point-lines : tie.Need-slice-aggregate-point-lines
-slice-aggregate-point-lines c = search rules
-
-point-lines-requires : tie.Need-point-lines-requires
+point-lines-requires : tie.Need-point_lines-first-requires
 point-lines-requires c κs = search rules
 
-slice-aggregate-point-lines-2 : tie.Need-slice-aggregate-point-lines-2
-slice-aggregate-point-lines-2 c = search rules
-
-point-lines-requires-2 : tie.Need-point-lines-requires-2
+point-lines-requires-2 : tie.Need-point_lines-second-requires
 point-lines-requires-2 c κs = search rules
 
-slice-aggregate-count-line : tie.Need-slice-aggregate-count-line
-slice-aggregate-count-line c = search rules
-
-count-line-requires : tie.Need-count-line-requires
+count-line-requires : tie.Need-count_line-end-requires
 count-line-requires c κs = search rules
 
 fit-requires : tie.Need-fit-requires
 fit-requires c κs = search rules
 
-same_length : tie.Need-same-length
+same_length : tie.Need-shape_of-out
 same_length c = search rules
 
 returns : tie.Need-returns
@@ -52,23 +40,19 @@ returns c = let fourth = c.before.before.before in
     promised (text_of corners absent s.args.points) s.args.out.now _ _
     (subst (λ n. Puts s.args.out.now 0
     (heading ++ (point_lines corner corners ++ (point_lines missing absent ++ line total (natural s.args.points) (natural n))))
-    fourth.count-line.result fourth.count-line.new.1.1.1.0) (sym (points_length s.args.missing.now))
-    (puts_append _ _ _ _ _ first.copy.ensures _ _ _
-    (puts_append _ _ _ _ _ second.point-lines.ensures _ _ _
-    (puts_append _ _ _ _ _ third.point-lines2.ensures _ _ _ fourth.count-line.ensures))))
+    fourth.count_line-end.result fourth.count_line-end.new.out) (sym (points_length s.args.missing.now))
+    (puts_append _ _ _ _ _ first.copy-heading.ensures _ _ _
+    (puts_append _ _ _ _ _ second.point_lines-first.ensures _ _ _
+    (puts_append _ _ _ _ _ third.point_lines-second.ensures _ _ _ fourth.count_line-end.ensures))))
     _ c.fit.ensures
 
 pub write_spec : {M : Type 1} → statement M
 write_spec =
     tie.close
     (tie.spec
-    slice-aggregate-copy
     copy-requires
-    slice-aggregate-point-lines
     point-lines-requires
-    slice-aggregate-point-lines-2
     point-lines-requires-2
-    slice-aggregate-count-line
     count-line-requires
     fit-requires
     same_length
