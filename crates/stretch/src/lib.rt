@@ -6,7 +6,7 @@ ghost use Rattle.packed.specs.Corners.{keys_of};
 ghost use Rattle.stretch.specs.Stretch.{Bounded, Way, HasRow, first_row, last_row, Tall, Rises, RisesFrom, Falls, FallsFrom, unit, column_of, Climbs, Only, FirstRises, OnRight, OnLeft, Crosses, stepped, GoesOn};
 
 // Columns moved to start at 0, from `from` to below `to`.
-#[derive(Drop)]
+#[derive(Clone, Copy)]
 pub struct Stretch {
     pub from: u32,
     pub to: u32,
@@ -14,7 +14,7 @@ pub struct Stretch {
 
 // An edge that crosses a row: the place of the corner from which it goes, the last row that it crosses, where it crosses this row, and how
 // far it goes from row to row. Both are parts of a column, with SIDE columns added for each row, so that none is below zero.
-#[derive(Drop)]
+#[derive(Clone, Copy)]
 pub struct Edge {
     pub place: usize,
     pub last: u32,
@@ -23,7 +23,7 @@ pub struct Edge {
 }
 
 // The edges that cross a row: the hull lies between them.
-#[derive(Drop)]
+#[derive(Clone, Copy)]
 pub struct Crossing {
     pub left: Edge,
     pub right: Edge,
