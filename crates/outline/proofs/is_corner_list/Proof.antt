@@ -11,75 +11,75 @@ use Rattle.outline.proofs.Shaping.{Shaping, few_listed, second_first, shaping_tw
 use Rattle.outline.proofs.is_corner_list.Statement.{statement}
 use Rattle.outline.proofs.is_corner_list.Tie as tie
 
-abbrev invariant-loop : tie.invariant-loop
+abbrev invariant-loop : tie.invariant-loop-i
 invariant-loop corners n first earlier₀ before₀ i₀ earlier before i = Shaping corners first earlier before i
 
-abbrev decreases-loop : tie.decreases-loop
+abbrev decreases-loop : tie.decreases-loop-i
 decreases-loop corners n first earlier₀ before₀ i₀ earlier before i = n - i
 
-returns : tie.Need-returns invariant-loop decreases-loop
-returns c = let l = c.before.args.corners.now in few_listed l c.before.requires (omega (arith, keys_length l, c.if1.true))
+returns : tie.Need-returns-then-n-lt2 invariant-loop decreases-loop
+returns c = let l = c.args.corners.now in few_listed l c.requires (omega (arith, keys_length l, c.if-n-lt2.true))
 
 -- the corners, of which there are two or more
-abbrev corners-of : tie.Else1 invariant-loop decreases-loop → List ℤ
-corners-of c = c.before.args.corners.now
+abbrev corners-of : tie.Else-n-lt2 invariant-loop decreases-loop → List ℤ
+corners-of c = c.args.corners.now
 
-two : (c : tie.Else1 invariant-loop decreases-loop) → 1 < length (keys_of (corners-of c))
-two c = omega (arith, keys_length (corners-of c), c.if1.false)
+two : (c : tie.Else-n-lt2 invariant-loop decreases-loop) → 1 < length (keys_of (corners-of c))
+two c = omega (arith, keys_length (corners-of c), c.if-n-lt2.false)
 
-key_at_requires : tie.Need-key-at-requires invariant-loop decreases-loop
-key_at_requires c κs = readable (corners-of c) c.before.requires 0 (omega (arith, two c))
+key_at_requires : tie.Need-key_at-first-requires invariant-loop decreases-loop
+key_at_requires c κs = readable (corners-of c) c.requires 0 (omega (arith, two c))
 
-key-at-requires-2 : tie.Need-key-at-requires-2 invariant-loop decreases-loop
-key-at-requires-2 c κs = let e = c.before in readable (corners-of e) e.before.requires 1 (two e)
+key-at-requires-2 : tie.Need-key_at-before-requires invariant-loop decreases-loop
+key-at-requires-2 c κs = let e = c.before in readable (corners-of e) e.requires 1 (two e)
 
-returns-2 : tie.Need-returns-2 invariant-loop decreases-loop
+returns-2 : tie.Need-returns-then-before-first invariant-loop decreases-loop
 returns-2 c = let k = c.before.before in
     let e = k.before in
-    second_first (corners-of e) e.before.requires _ _ k.key-at.ensures.2 c.before.key-at2.ensures.2 (two e) c.if2.true
+    second_first (corners-of e) e.requires _ _ k.key_at-first.ensures.2 c.key_at-before.ensures.2 (two e) c.if-before-first.true
 
-loop-holds : tie.Need-loop-init invariant-loop decreases-loop
+loop-holds : tie.Need-loop-i-init invariant-loop decreases-loop
 loop-holds c = let k = c.before.before in
     let e = k.before in
-    shaping_two (corners-of e) e.before.requires _ _ k.key-at.ensures.2 c.before.key-at2.ensures.2 (two e) c.if2.false
+    shaping_two (corners-of e) e.requires _ _ k.key_at-first.ensures.2 c.key_at-before.ensures.2 (two e) c.if-before-first.false
 
 -- in a turn the place is that of a corner
-inside : (c : tie.In-loop invariant-loop decreases-loop) → c.before.loop.i < length (keys_of (corners-of c.before.before.before.before.before))
-inside c = omega (arith, keys_length (corners-of c.before.before.before.before.before), c.loop-test.true)
+inside : (c : tie.In-loop-i invariant-loop decreases-loop) → c.loop-i.i < length (keys_of (corners-of c.before.before.before.before.before))
+inside c = omega (arith, keys_length (corners-of c.before.before.before.before.before), c.loop-i-test.true)
 
-key-at-requires-3 : tie.Need-key-at-requires-3 invariant-loop decreases-loop
-key-at-requires-3 c κs = let e = c.before.before.before.before.before in readable (corners-of e) e.before.requires c.before.loop.i (inside c)
+key-at-requires-3 : tie.Need-key_at-corner-requires invariant-loop decreases-loop
+key-at-requires-3 c κs = let e = c.before.before.before.before.before in readable (corners-of e) e.requires c.loop-i.i (inside c)
 
 follows-requires : tie.Need-follows-requires invariant-loop decreases-loop
 follows-requires c κs = let t = c.before in
     let e = t.before.before.before.before.before in
-    let b = shaping_below (corners-of e) e.before.requires t.before.loop.invariant (inside t) _ c.key-at3.ensures.2 in
-    (b.0, b.1, b.2, c.key-at3.ensures.1)
+    let b = shaping_below (corners-of e) e.requires t.loop-i.invariant (inside t) _ c.key_at-corner.ensures.2 in
+    (b.0, b.1, b.2, c.key_at-corner.ensures.1)
 
-add-i : tie.Need-overflow-add-i invariant-loop decreases-loop
+add-i : tie.Need-overflow_add-i invariant-loop decreases-loop
 add-i c = omega arith
 
-loop-less : tie.Need-loop-smaller invariant-loop decreases-loop
+loop-less : tie.Need-loop-i-smaller invariant-loop decreases-loop
 loop-less c = omega arith
 
-loop-again : tie.Need-loop-preserved invariant-loop decreases-loop
+loop-again : tie.Need-loop-i-preserved invariant-loop decreases-loop
 loop-again c = let k = c.before.before in
     let t = k.before in
     let e = t.before.before.before.before.before in
-    shaping_more (corners-of e) e.before.requires t.before.loop.invariant (inside t) _ k.key-at3.ensures.2 (tells_yes c.if3.true c.before.follows.ensures)
+    shaping_more (corners-of e) e.requires t.loop-i.invariant (inside t) _ k.key_at-corner.ensures.2 (tells_yes c.if-follows.true c.follows.ensures)
 
-returns-3 : tie.Need-returns-3 invariant-loop decreases-loop
+returns-3 : tie.Need-returns-else-follows invariant-loop decreases-loop
 returns-3 c = let k = c.before.before in
     let t = k.before in
     let e = t.before.before.before.before.before in
-    shaping_breaks (corners-of e) e.before.requires t.before.loop.invariant (inside t) _ k.key-at3.ensures.2 (tells_no c.if3.false c.before.follows.ensures)
+    shaping_breaks (corners-of e) e.requires t.loop-i.invariant (inside t) _ k.key_at-corner.ensures.2 (tells_no c.if-follows.false c.follows.ensures)
 
-returns-4 : tie.Need-returns-4 invariant-loop decreases-loop
+returns-4 : tie.Need-returns invariant-loop decreases-loop
 returns-4 c = let e = c.before.before.before.before.before in
-    shaping_ends (corners-of e) e.before.requires c.before.loop.invariant (omega (arith, keys_length (corners-of e), c.loop-test.false))
+    shaping_ends (corners-of e) e.requires c.loop-i.invariant (omega (arith, keys_length (corners-of e), c.loop-i-test.false))
 
-pub is-corner-list-spec : {M : Type 1} → statement M
-is-corner-list-spec =
+pub is_corner_list_spec : {M : Type 1} → statement M
+is_corner_list_spec =
     tie.close
     (tie.spec
     invariant-loop

@@ -6,11 +6,11 @@ use Prim.Native.Nat.{ℕ}
 use native.Mathlib.Omega.{arith}
 use Rattle.range.proofs.Passing.{tells_both}
 
-returns : tie.Need-returns
-returns c = tells_both c.before.args.a c.before.args.b c.if1.true
+returns : tie.Need-returns-then-b
+returns c = tells_both c.args.a c.args.b c.if-b.true
 
-returns-2 : tie.Need-returns-2
-returns-2 c = λ h. let z : ◌≡◌ {A = ℕ} 0 1 = cc (c.if1.false, h.1) in omega arith
+returns-2 : tie.Need-returns
+returns-2 c = λ h. let z : ◌≡◌ {A = ℕ} 0 1 = cc (c.if-b.false, h.1) in omega arith
 
-pub both-spec : {M : Type 1} → statement M
-both-spec = tie.close (tie.spec returns returns-2)
+pub both_spec : {M : Type 1} → statement M
+both_spec = tie.close (tie.spec returns returns-2)

@@ -7,67 +7,67 @@ use Rattle.scan.proofs.Climbing.{Descending, descending_start, descending_row, d
 use Rattle.scan.proofs.descend.Statement.{statement}
 use Rattle.scan.proofs.descend.Tie as tie
 
-abbrev invariant-loop : tie.invariant-loop
+abbrev invariant-loop : tie.invariant-loop-end
 invariant-loop keys stack₀ base top₀ end₀ stack top end = (length stack ≡ length stack₀) × Descending keys stack₀ base stack top end
 
-abbrev decreases-loop : tie.decreases-loop
+abbrev decreases-loop : tie.decreases-loop-end
 decreases-loop keys stack₀ base top₀ end₀ stack top end = end
 
-add-top : tie.Need-overflow-add-top invariant-loop decreases-loop
+add-top : tie.Need-overflow_add-top invariant-loop decreases-loop
 add-top c = omega arith
 
-sub-end : tie.Need-overflow-sub-end invariant-loop decreases-loop
+sub-end : tie.Need-overflow_sub-end invariant-loop decreases-loop
 sub-end c = omega arith
 
-loop-holds : tie.Need-loop-init invariant-loop decreases-loop
+loop-holds : tie.Need-loop-end-init invariant-loop decreases-loop
 loop-holds c = let a = c.before.before in
     (refl, descending_start _ _ _ (omega (arith, a.requires.0.some)) a.requires.1)
 
-row-begin-requires : tie.Need-row-begin-requires invariant-loop decreases-loop
-row-begin-requires c κs = (c.before.before.before.before.requires.0.rising, omega (arith, c.loop-test.true), omega (arith, c.before.loop.invariant.1.upto))
+row-begin-requires : tie.Need-row_begin-begin-requires invariant-loop decreases-loop
+row-begin-requires c κs = (c.requires.0.rising, omega (arith, c.loop-end-test.true), omega (arith, c.loop-end.invariant.1.upto))
 
-mul-push-first : tie.Need-overflow-mul-push-first invariant-loop decreases-loop
+mul-push-first : tie.Need-offset_bounds-keys-begin invariant-loop decreases-loop
 mul-push-first c = omega arith
 
-sub-push-first : tie.Need-overflow-sub-push-first invariant-loop decreases-loop
-sub-push-first c = omega (arith, c.before.row-begin.ensures.some)
+sub-push-first : tie.Need-slice_bounds-push_first-count invariant-loop decreases-loop
+sub-push-first c = omega (arith, c.row_begin-begin.ensures.some)
 
-part-push-first-start : tie.Need-slice-bounds-push-first-start invariant-loop decreases-loop
-part-push-first-start c = omega (arith, c.before.row-begin.ensures.some)
+part-push-first-start : tie.Need-slice_bounds-push_first-start invariant-loop decreases-loop
+part-push-first-start c = omega (arith, c.row_begin-begin.ensures.some)
 
-part-push-first-end : tie.Need-slice-bounds-push-first-end invariant-loop decreases-loop
-part-push-first-end c = omega (arith, c.before.before.before.loop.invariant.1.upto)
+part-push-first-end : tie.Need-slice_bounds-push_first-end invariant-loop decreases-loop
+part-push-first-end c = omega (arith, c.loop-end.invariant.1.upto)
 
-push-first-requires : tie.Need-push-first-requires invariant-loop decreases-loop
+push-first-requires : tie.Need-push_first-top-requires invariant-loop decreases-loop
 push-first-requires c κs = let l = c.before.before.before.before in
-    let row = c.before.before.row-begin.ensures in (
-      descending_row _ _ _ _ _ _ l.before.before.before.requires.0.rising l.loop.invariant.1 _ row,
-      descending_pushable _ _ _ _ _ _ l.before.before.before.requires.0.rising l.loop.invariant.1 _ row l.before.before.before.requires.1.few
-          (omega (arith, l.loop.invariant.0, l.before.before.before.requires.0.room)),
+    let row = c.row_begin-begin.ensures in (
+      descending_row _ _ _ _ _ _ l.requires.0.rising l.loop-end.invariant.1 _ row,
+      descending_pushable _ _ _ _ _ _ l.requires.0.rising l.loop-end.invariant.1 _ row l.requires.1.few
+          (omega (arith, l.loop-end.invariant.0, l.requires.0.room)),
     )
 
-loop-less : tie.Need-loop-smaller invariant-loop decreases-loop
-loop-less c = c.before.before.before.before.before.row-begin.ensures.some
+loop-less : tie.Need-loop-end-smaller invariant-loop decreases-loop
+loop-less c = c.row_begin-begin.ensures.some
 
-loop-again : tie.Need-loop-preserved invariant-loop decreases-loop
+loop-again : tie.Need-loop-end-preserved invariant-loop decreases-loop
 loop-again c = let l = c.before.before.before.before.before.before.before in (
-  c.before.before.push-first.auto.0 ∙ l.loop.invariant.0,
-  descending_push _ _ _ _ _ _ l.before.before.before.requires.0.rising l.loop.invariant.1 _ c.before.before.before.before.before.row-begin.ensures _ _ c.before.before.push-first.ensures,
+  c.push_first-top.auto.stack ∙ l.loop-end.invariant.0,
+  descending_push _ _ _ _ _ _ l.requires.0.rising l.loop-end.invariant.1 _ c.row_begin-begin.ensures _ _ c.push_first-top.ensures,
 )
 
-sub-result : tie.Need-overflow-sub-result invariant-loop decreases-loop
+sub-result : tie.Need-overflow_sub-result invariant-loop decreases-loop
 sub-result c = omega arith
 
-same_length : tie.Need-same-length invariant-loop decreases-loop
+same_length : tie.Need-shape_of-stack invariant-loop decreases-loop
 same_length c = omega arith
 
 returns : tie.Need-returns invariant-loop decreases-loop
 returns c = let l = c.before in
-    descending_end _ _ _ _ _ _ l.before.before.before.requires.0.rising l.before.before.before.requires.0.some
-    (omega (arith, l.loop.invariant.0, l.before.before.before.requires.0.room)) l.before.before.before.requires.1 l.loop.invariant.1 (omega (arith, c.loop-test.false))
+    descending_end _ _ _ _ _ _ l.requires.0.rising l.requires.0.some
+    (omega (arith, l.loop-end.invariant.0, l.requires.0.room)) l.requires.1 l.loop-end.invariant.1 (omega (arith, c.loop-end-test.false))
 
-pub descend-spec : {M : Type 1} → statement M
-descend-spec =
+pub descend_spec : {M : Type 1} → statement M
+descend_spec =
     tie.close
     (tie.spec
     invariant-loop

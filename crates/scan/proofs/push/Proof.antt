@@ -13,98 +13,98 @@ use Rattle.scan.proofs.Popping.{Popping, popping_none, popping_below, popping_mo
 use Rattle.scan.proofs.push.Statement.{statement}
 use Rattle.scan.proofs.push.Tie as tie
 
-abbrev invariant-loop : tie.invariant-loop
+abbrev invariant-loop : tie.invariant-loop-last
 invariant-loop stack₀ base top k last₀ stack last = Popping stack₀ base top k stack last
 
-abbrev decreases-loop : tie.decreases-loop
+abbrev decreases-loop : tie.decreases-loop-last
 decreases-loop stack₀ base top k last₀ stack last = last
 
-sub-last : tie.Need-overflow-sub-last invariant-loop decreases-loop
+sub-last : tie.Need-overflow_sub-last invariant-loop decreases-loop
 sub-last c = omega arith
 
-loop-holds : tie.Need-loop-init invariant-loop decreases-loop
-loop-holds c = popping_none _ _ _ _ c.before.requires.some
+loop-holds : tie.Need-loop-last-init invariant-loop decreases-loop
+loop-holds c = popping_none _ _ _ _ c.requires.some
 
 -- nothing is written as long as points are popped
-long : (c : tie.At-loop invariant-loop decreases-loop) → length c.loop.stack ≡ length c.before.before.args.stack.now
-long c = ap length c.loop.invariant.same
+long : (c : tie.At-loop-last invariant-loop decreases-loop) → length c.loop-last.stack ≡ length c.args.stack.now
+long c = ap length c.loop-last.invariant.same
 
-sub-left : tie.Need-overflow-sub-left invariant-loop decreases-loop
+sub-left : tie.Need-overflow_sub-last-in-loop-last invariant-loop decreases-loop
 sub-left c = omega arith
 
-mul_left : tie.Need-overflow-mul-left invariant-loop decreases-loop
+mul_left : tie.Need-offset_bounds-stack-last invariant-loop decreases-loop
 mul_left c = omega arith
 
-slice-read-left : tie.Need-slice-read-left invariant-loop decreases-loop
+slice-read-left : tie.Need-bounds-stack-last invariant-loop decreases-loop
 slice-read-left c = let l = c.before.before in
-    omega (arith, long l, l.loop.invariant.under, l.before.before.requires.room)
+    omega (arith, long l, l.loop-last.invariant.under, l.requires.room)
 
-mul-left-2 : tie.Need-overflow-mul-left-2 invariant-loop decreases-loop
+mul-left-2 : tie.Need-offset_bounds-stack-last-in-loop-last invariant-loop decreases-loop
 mul-left-2 c = omega arith
 
-slice-read-left-2 : tie.Need-slice-read-left-2 invariant-loop decreases-loop
+slice-read-left-2 : tie.Need-bounds-stack-last-in-loop-last invariant-loop decreases-loop
 slice-read-left-2 c = let l = c.before.before.before in
-    omega (arith, long l, l.loop.invariant.under, l.before.before.requires.room)
+    omega (arith, long l, l.loop-last.invariant.under, l.requires.room)
 
 left-requires : tie.Need-left-requires invariant-loop decreases-loop
 left-requires c κs = let l = c.before.before.before in
-    let below = popping_below _ _ _ _ _ _ l.loop.invariant l.before.before.requires in
-    (below (l.loop.last - 1) (omega arith), below l.loop.last (omega arith), l.before.before.requires.new)
+    let below = popping_below _ _ _ _ _ _ l.loop-last.invariant l.requires in
+    (below (l.loop-last.last - 1) (omega arith), below l.loop-last.last (omega arith), l.requires.new)
 
-add-stack : tie.Need-overflow-add-stack invariant-loop decreases-loop
+add-stack : tie.Need-overflow_add-stack invariant-loop decreases-loop
 add-stack c = omega arith
 
-mul-stack : tie.Need-overflow-mul-stack invariant-loop decreases-loop
+mul-stack : tie.Need-offset_bounds-stack-last-then-left invariant-loop decreases-loop
 mul-stack c = omega arith
 
-slice-write-stack : tie.Need-slice-write-stack invariant-loop decreases-loop
+slice-write-stack : tie.Need-bounds-stack-last-then-left invariant-loop decreases-loop
 slice-write-stack c = let l = c.before.before.before.before.before in
-    omega (arith, long l, l.loop.invariant.under, l.before.before.requires.room)
+    omega (arith, long l, l.loop-last.invariant.under, l.requires.room)
 
-add-result : tie.Need-overflow-add-result invariant-loop decreases-loop
+add-result : tie.Need-overflow_add-result invariant-loop decreases-loop
 add-result c = omega arith
 
-same_length : tie.Need-same-length invariant-loop decreases-loop
+same_length : tie.Need-shape_of-stack-then-left invariant-loop decreases-loop
 same_length c = let l = c.before.before.before.before.before in
     simp length-set (long l)
 
-returns : tie.Need-returns invariant-loop decreases-loop
+returns : tie.Need-returns-then-left invariant-loop decreases-loop
 returns c = let l = c.before.before.before.before.before in
-    popping_ends _ _ _ _ _ _ l.loop.invariant l.before.before.requires
-    (λ i b e. let f : l.loop.last - 1 ≡ i = omega arith in
-    subst (λ j. pos 0 <ℤ turn (at l.loop.stack j) (at l.loop.stack l.loop.last) (unpacked l.before.before.args.k)) f
-    (lt_yes (sym c.before.left.ensures ∙ c.if1.true)))
+    popping_ends _ _ _ _ _ _ l.loop-last.invariant l.requires
+    (λ i b e. let f : l.loop-last.last - 1 ≡ i = omega arith in
+    subst (λ j. pos 0 <ℤ turn (at l.loop-last.stack j) (at l.loop-last.stack l.loop-last.last) (unpacked l.args.k)) f
+    (lt_yes (sym c.left.ensures ∙ c.if-left.true)))
 
-sub-last-2 : tie.Need-overflow-sub-last-2 invariant-loop decreases-loop
+sub-last-2 : tie.Need-overflow_sub-last-in-loop-last-2 invariant-loop decreases-loop
 sub-last-2 c = omega arith
 
-loop-less : tie.Need-loop-smaller invariant-loop decreases-loop
+loop-less : tie.Need-loop-last-smaller invariant-loop decreases-loop
 loop-less c = omega arith
 
-loop-again : tie.Need-loop-preserved invariant-loop decreases-loop
+loop-again : tie.Need-loop-last-preserved invariant-loop decreases-loop
 loop-again c = let l = c.before.before.before.before.before in
-    popping_more _ _ _ _ _ _ l.loop.invariant c.before.before.before.before.loop-test.true (lt_no (sym c.before.left.ensures ∙ c.if1.false))
+    popping_more _ _ _ _ _ _ l.loop-last.invariant c.loop-last-test.true (lt_no (sym c.left.ensures ∙ c.if-left.false))
 
-add-stack-2 : tie.Need-overflow-add-stack-2 invariant-loop decreases-loop
+add-stack-2 : tie.Need-overflow_add-stack-2 invariant-loop decreases-loop
 add-stack-2 c = omega arith
 
-mul-stack-2 : tie.Need-overflow-mul-stack-2 invariant-loop decreases-loop
+mul-stack-2 : tie.Need-offset_bounds-stack-last-2 invariant-loop decreases-loop
 mul-stack-2 c = omega arith
 
-slice-write-stack-2 : tie.Need-slice-write-stack-2 invariant-loop decreases-loop
+slice-write-stack-2 : tie.Need-bounds-stack-last-2 invariant-loop decreases-loop
 slice-write-stack-2 c = let l = c.before in
-    omega (arith, long l, l.loop.invariant.under, l.before.before.requires.room)
+    omega (arith, long l, l.loop-last.invariant.under, l.requires.room)
 
-add-result-2 : tie.Need-overflow-add-result-2 invariant-loop decreases-loop
+add-result-2 : tie.Need-overflow_add-result-2 invariant-loop decreases-loop
 add-result-2 c = omega arith
 
-same-length-2 : tie.Need-same-length-2 invariant-loop decreases-loop
+same-length-2 : tie.Need-shape_of-stack invariant-loop decreases-loop
 same-length-2 c = simp length-set (long c.before)
 
-returns-2 : tie.Need-returns-2 invariant-loop decreases-loop
+returns-2 : tie.Need-returns invariant-loop decreases-loop
 returns-2 c = let l = c.before in
-    popping_ends _ _ _ _ _ _ l.loop.invariant l.before.before.requires
-    (λ i b e. absurd (omega (arith, c.loop-test.false)))
+    popping_ends _ _ _ _ _ _ l.loop-last.invariant l.requires
+    (λ i b e. absurd (omega (arith, c.loop-last-test.false)))
 
 pub push_spec : {M : Type 1} → statement M
 push_spec =

@@ -12,15 +12,15 @@ column-requires c κs = search rules
 column-requires-2 : tie.Need-column-requires-2
 column-requires-2 c κs = search rules
 
-add-between : tie.Need-overflow-add-between
+add-between : tie.Need-overflow_add-column
 add-between c = search rules
 
 between-requires : tie.Need-between-requires
 between-requires c κs = search rules
 
 returns : tie.Need-returns
-returns c = subst₂ (λ m n. Bounded m (n + 1) c.between.result) c.before.before.column.ensures c.before.column2.ensures c.between.ensures
+returns c = subst₂ (λ m n. Bounded m (n + 1) c.between.result) c.column.ensures c.column-2.ensures c.between.ensures
 
-pub across-spec : {M : Type 1} → statement M
-across-spec =
+pub across_spec : {M : Type 1} → statement M
+across_spec =
     tie.close (tie.spec column-requires column-requires-2 add-between between-requires returns)

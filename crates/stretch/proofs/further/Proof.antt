@@ -12,5 +12,5 @@ step-requires-2 c κs = search rules
 returns : tie.Need-returns
 returns c = cc
 
-pub further-spec : {M : Type 1} → statement M
-further-spec = tie.close (tie.spec step-requires step-requires-2 returns)
+pub further_spec : {M : Type 1} → statement M
+further_spec = tie.close (tie.spec step-requires step-requires-2 returns)
