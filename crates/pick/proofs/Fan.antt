@@ -101,6 +101,7 @@ module _ (c a b d : Point) (l : List Point) (s : Shape (c ∷ a ∷ b ∷ d ∷ 
   ends : (P : Point → Type 0) → P c → P b → (q : Point) → In q (c ∷ b ∷ []) → P q
   ends P pc pb q (inl e) = subst P (sym e) pc
   ends P pc pb q (inr (inl e)) = subst P (sym e) pb
+  ends P pc pb q (inr (inr k)) = elim k [ ]
 
   cut_triangle : (p : Point) → InHull (Of (c ∷ b ∷ [])) p → InTriangle c a b p
   cut_triangle p h = record {

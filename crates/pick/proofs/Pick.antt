@@ -78,6 +78,7 @@ only_point a p h =
   where
     the_one : (P : Point → Type 0) → P a → (q : Point) → In q (a ∷ []) → P q
     the_one P k q (inl e) = subst P (sym e) k
+    the_one P k q (inr n) = elim n [ ]
 
 twice_hull : (c : List Point) → Shape c → Twice (InHull (Of c)) (twice_count c)
 twice_hull [] s = (pos 0, number_none (λ p h. ((polygon [] s p).0 h).from.1), refl)

@@ -209,6 +209,7 @@ module _ (α β : ℤ) (a b : Point) (g : ℤ) (steps : Steps a b g) (rises : Po
       ends : (P : Point → Type 0) → P a → P b → (z : Point) → In z (a ∷ b ∷ []) → P z
       ends P pa pb z (inl e) = subst P (sym e) pa
       ends P pa pb z (inr (inl e)) = subst P (sym e) pb
+      ends P pa pb z (inr (inr k)) = elim k [ ]
 
   pub along_hull : (q : Point) → Along α β a b q → InHull (Of (a ∷ b ∷ [])) q
   along_hull q s = segment a b (inl refl) (inr (inl refl)) (along_segment q s)

@@ -7,16 +7,16 @@ use Rattle.pick.proofs.Sums.{gain_of, column_times_row}
 use Rattle.pick.proofs.gain.Statement.{statement}
 use Rattle.pick.proofs.gain.Tie as tie
 
-mul-result : tie.Need-overflow-mul-result
+mul-result : tie.Need-overflow_mul-result
 mul-result c = omega (arith, column_times_row c.args.ax c.args.by c.requires.0 c.requires.2)
 
 steps-requires : tie.Need-steps-requires
 steps-requires c κs = search rules
 
-cast-result : tie.Need-overflow-cast-result
+cast-result : tie.Need-overflow_cast-result-3
 cast-result c = search rules
 
-add-result : tie.Need-overflow-add-result
+add-result : tie.Need-overflow_add-result
 add-result c = let a = c.before in omega (arith, column_times_row a.args.ax a.args.by a.requires.0 a.requires.2)
 
 returns : tie.Need-returns
@@ -25,5 +25,5 @@ returns c = let a = c.before in (
   omega (arith, column_times_row a.args.ax a.args.by a.requires.0 a.requires.2),
 )
 
-pub gain-spec : {M : Type 1} → statement M
-gain-spec = tie.close (tie.spec mul-result steps-requires cast-result add-result returns)
+pub gain_spec : {M : Type 1} → statement M
+gain_spec = tie.close (tie.spec mul-result steps-requires cast-result add-result returns)
