@@ -10,29 +10,27 @@ use Rattle.header.proofs.after_width.Tie as tie
 sized-requires : tie.Need-sized-requires
 sized-requires c κs = search rules
 
-enum-known-height : tie.Need-enum-known-height
+enum-known-height : tie.Need-enum_known-height
 enum-known-height c = search rules
 
 -- the height that is found
-found : (c : tie.After-height) → let s = c.before.before.before.before in
-    Sized s.args.bytes.now s.args.at (parts.Size c.height.given.0.0 c.height.given.0.1.0)
-found c = subst (Sized _ _) c.height.given.1 c.before.before.sized.ensures
+found : (c : tie.In-Size) → Sized c.args.bytes.now c.args.at (parts.Size c.in-Size.height c.in-Size.end)
+found c = subst (Sized _ _) c.in-Size.is c.sized.ensures
 
-after-height-requires : tie.Need-after-height-requires
-after-height-requires c κs = (found c.before).1
+after-height-requires : tie.Need-after_height-requires
+after-height-requires c κs = (found c).1
 
-enum-known-place : tie.Need-enum-known-place
+enum-known-place : tie.Need-enum_known-place
 enum-known-place c = search rules
 
-returns : tie.Need-returns
-returns c = c.after-height.ensures ∙ sym ((found c.before.before).0 (after_height _ _))
+returns : tie.Need-returns-in-Size
+returns c = c.after_height.ensures ∙ sym ((found c.before).0 (after_height _ _))
 
-returns-2 : tie.Need-returns-2
-returns-2 c = let p = c.before in
-    sym (subst (Sized _ _) p.place.given.1 p.before.before.sized.ensures (after_height _ _))
+returns-2 : tie.Need-returns-in-Bad
+returns-2 c = sym (subst (Sized c.args.bytes.now c.args.at) c.in-Bad.is c.sized.ensures (after_height c.args.bytes.now c.args.width))
 
-pub after-width-spec : {M : Type 1} → statement M
-after-width-spec =
+pub after_width_spec : {M : Type 1} → statement M
+after_width_spec =
     tie.close
     (tie.spec
     sized-requires

@@ -10,29 +10,27 @@ use Rattle.header.proofs.check.Tie as tie
 sized-requires : tie.Need-sized-requires
 sized-requires c κs = search rules
 
-enum-known-width : tie.Need-enum-known-width
+enum-known-width : tie.Need-enum_known-width
 enum-known-width c = search rules
 
 -- the width that is found
-found : (c : tie.After-width) → let s = c.before.before.before.before in
-    Sized s.args.bytes.now 2 (parts.Size c.width.given.0.0 c.width.given.0.1.0)
-found c = subst (Sized _ _) c.width.given.1 c.before.before.sized.ensures
+found : (c : tie.In-Size) → Sized c.args.bytes.now 2 (parts.Size c.in-Size.width c.in-Size.end)
+found c = subst (Sized c.args.bytes.now 2) c.in-Size.is c.sized.ensures
 
-after-width-requires : tie.Need-after-width-requires
-after-width-requires c κs = (found c.before).1
+after-width-requires : tie.Need-after_width-requires
+after-width-requires c κs = (found c).1
 
-enum-known-place : tie.Need-enum-known-place
+enum-known-place : tie.Need-enum_known-place
 enum-known-place c = search rules
 
-returns : tie.Need-returns
-returns c = c.after-width.ensures ∙ sym ((found c.before.before).0 (after_width _))
+returns : tie.Need-returns-in-Size
+returns c = c.after_width.ensures ∙ sym ((found c.before).0 (after_width _))
 
-returns-2 : tie.Need-returns-2
-returns-2 c = let p = c.before in
-    sym (subst (Sized _ _) p.place.given.1 p.before.before.sized.ensures (after_width _))
+returns-2 : tie.Need-returns-in-Bad
+returns-2 c = sym (subst (Sized c.args.bytes.now 2) c.in-Bad.is c.sized.ensures (after_width c.args.bytes.now))
 
-pub check-spec : {M : Type 1} → statement M
-check-spec =
+pub check_spec : {M : Type 1} → statement M
+check_spec =
     tie.close
     (tie.spec
     sized-requires

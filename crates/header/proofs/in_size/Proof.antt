@@ -3,11 +3,11 @@ use borrow.Author.Tests.{le-leb, lt-leb}
 use Rattle.header.proofs.in_size.Statement.{statement}
 use Rattle.header.proofs.in_size.Tie as tie
 
-returns : tie.Need-returns
-returns c = rw (lt-leb 1 _ c.if1.true)
+returns : tie.Need-returns-then-n-lt1
+returns c = rw (lt-leb 1 _ c.if-n-lt1.true)
 
-returns-2 : tie.Need-returns-2
-returns-2 c = rw (le-leb 1 _ c.if1.false)
+returns-2 : tie.Need-returns
+returns-2 c = rw (le-leb 1 _ c.if-n-lt1.false)
 
-pub in-size-spec : {M : Type 1} → statement M
-in-size-spec = tie.close (tie.spec returns returns-2)
+pub in_size_spec : {M : Type 1} → statement M
+in_size_spec = tie.close (tie.spec returns returns-2)

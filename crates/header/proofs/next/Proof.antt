@@ -6,31 +6,31 @@ use Rattle.header.proofs.Reading.{comment_begins}
 use Rattle.header.proofs.next.Statement.{statement}
 use Rattle.header.proofs.next.Tie as tie
 
-shared-slice-read-if2 : tie.Need-shared-slice-read-if2
+shared-slice-read-if2 : tie.Need-bounds-bytes-at
 shared-slice-read-if2 c = search rules
 
-add-line-end : tie.Need-overflow-add-line-end
+add-line-end : tie.Need-overflow_add-at
 add-line-end c = search rules
 
-line-end-requires : tie.Need-line-end-requires
+line-end-requires : tie.Need-line_end-requires
 line-end-requires c κs = search rules
 
-returns : tie.Need-returns
-returns c = let r = c.line-end.ensures in
+returns : tie.Need-returns-then-bytes-at-eq35
+returns c = let r = c.line_end.ensures in
     record {
-      reads = comment_begins _ _ c.before.before.before.if1.true c.before.if2.true ∙ r.reads;
+      reads = comment_begins _ _ c.if-at-bytes.true c.if-bytes-at-eq35.true ∙ r.reads;
       settled = r.settled;
       forward = omega (arith, r.forward);
       inside = r.inside;
     }
 
-returns-2 : tie.Need-returns-2
+returns-2 : tie.Need-returns-else-bytes-at-eq35
 returns-2 c = search rules
 
-returns-3 : tie.Need-returns-3
+returns-3 : tie.Need-returns-else-at-bytes
 returns-3 c = search rules
 
-pub next-spec : {M : Type 1} → statement M
-next-spec =
+pub next_spec : {M : Type 1} → statement M
+next_spec =
     tie.close
     (tie.spec shared-slice-read-if2 add-line-end line-end-requires returns returns-2 returns-3)

@@ -6,19 +6,19 @@ use Rattle.header.proofs.Parts.{starts_byte, starts_end}
 use Rattle.header.proofs.white_at.Statement.{statement}
 use Rattle.header.proofs.white_at.Tie as tie
 
-shared-slice-read-white-space : tie.Need-shared-slice-read-white-space
+shared-slice-read-white-space : tie.Need-bounds-bytes-at
 shared-slice-read-white-space c = search rules
 
-white-space-requires : tie.Need-white-space-requires
+white-space-requires : tie.Need-white_space-requires
 white-space-requires c κs = search rules
 
-returns : tie.Need-returns
+returns : tie.Need-returns-then-at-bytes
 returns c = let s = c.before.before.before.before in
-    c.white-space.ensures ∙ sym (starts_byte white_space _ _ c.before.before.if1.true s.requires)
+    c.white_space.ensures ∙ sym (starts_byte white_space _ _ c.if-at-bytes.true s.requires)
 
-returns-2 : tie.Need-returns-2
-returns-2 c = sym (starts_end white_space _ _ c.if1.false)
+returns-2 : tie.Need-returns
+returns-2 c = sym (starts_end white_space _ _ c.if-at-bytes.false)
 
-pub white-at-spec : {M : Type 1} → statement M
-white-at-spec =
+pub white_at_spec : {M : Type 1} → statement M
+white_at_spec =
     tie.close (tie.spec shared-slice-read-white-space white-space-requires returns returns-2)
