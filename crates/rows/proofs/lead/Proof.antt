@@ -17,64 +17,64 @@ use Rattle.rows.proofs.RowLaws.{Leading, leading_none, leading_more, leading_sto
 use Rattle.rows.proofs.lead.Statement.{statement}
 use Rattle.rows.proofs.lead.Tie as tie
 
-abbrev invariant-loop : tie.invariant-loop
+abbrev invariant-loop : tie.invariant-loop-i
 invariant-loop list y n i₀ i = Leading (points list) (to_z w32 y) i
 
-abbrev decreases-loop : tie.decreases-loop
+abbrev decreases-loop : tie.decreases-loop-i
 decreases-loop list y n i₀ i = n - i
 
-loop-holds : tie.Need-loop-init invariant-loop decreases-loop
+loop-holds : tie.Need-loop-i-init invariant-loop decreases-loop
 loop-holds c = leading_none _ _
 
-mul-v : tie.Need-overflow-mul-v invariant-loop decreases-loop
+mul-v : tie.Need-overflow_mul-v invariant-loop decreases-loop
 mul-v c = omega arith
 
-add-v : tie.Need-overflow-add-v invariant-loop decreases-loop
+add-v : tie.Need-overflow_add-v invariant-loop decreases-loop
 add-v c = omega arith
 
-mul-v-2 : tie.Need-overflow-mul-v-2 invariant-loop decreases-loop
+mul-v-2 : tie.Need-offset_bounds-list-i invariant-loop decreases-loop
 mul-v-2 c = omega arith
 
-shared-slice-copy-out-v : tie.Need-shared-slice-copy-out-v invariant-loop decreases-loop
+shared-slice-copy-out-v : tie.Need-bounds-list-i invariant-loop decreases-loop
 shared-slice-copy-out-v c = omega arith
 
-add-i : tie.Need-overflow-add-i invariant-loop decreases-loop
+add-i : tie.Need-overflow_add-i invariant-loop decreases-loop
 add-i c = omega arith
 
-loop-less : tie.Need-loop-smaller invariant-loop decreases-loop
+loop-less : tie.Need-loop-i-smaller invariant-loop decreases-loop
 loop-less c = omega arith
 
 -- in a turn: the points, the row asked for, and that the number read is the row of the point at that place
-abbrev points-of : tie.At-loop invariant-loop decreases-loop → List Point
-points-of c = points c.before.args.list.now
+abbrev points-of : tie.At-loop-i invariant-loop decreases-loop → List Point
+points-of c = points c.args.list.now
 
-abbrev row_of : tie.At-loop invariant-loop decreases-loop → ℤ
-row_of c = to_z w32 (of_z w32 c.before.args.y)
+abbrev row_of : tie.At-loop-i invariant-loop decreases-loop → ℤ
+row_of c = to_z w32 (of_z w32 c.args.y)
 
-inside : (c : tie.In-loop invariant-loop decreases-loop) → c.before.loop.i < length (points-of c.before)
-inside c = omega (arith, points_length c.before.before.args.list.now, c.loop-test.true)
+inside : (c : tie.In-loop-i invariant-loop decreases-loop) → c.loop-i.i < length (points-of c.before)
+inside c = omega (arith, points_length c.args.list.now, c.loop-i-test.true)
 
-is_row : (c : tie.After-v invariant-loop decreases-loop)
-    → to_z w32 (of_z w32 (row_at c.before.before.before.args.list.now c.before.before.loop.i))
-    ≡ (point (points-of c.before.before) c.before.before.loop.i).y
-is_row c = read_row c.before.before.before.args.list.now c.before.before.loop.i (record { sfits = c.v.given }) (inside c.before)
+is_row : (c : tie.After-v-1 invariant-loop decreases-loop)
+    → to_z w32 (of_z w32 (row_at c.args.list.now c.loop-i.i))
+    ≡ (point (points-of c.before.before) c.loop-i.i).y
+is_row c = read_row c.args.list.now c.loop-i.i (record { sfits = c.v-1.given }) (inside c.before)
 
-loop-again : tie.Need-loop-preserved invariant-loop decreases-loop
+loop-again : tie.Need-loop-i-preserved invariant-loop decreases-loop
 loop-again c = let l = c.before.before.before in
-    leading_more _ _ _ l.loop.invariant (inside c.before.before) (lt_yes (ap (λ z. lt_z z (row_of l)) (sym (is_row c.before)) ∙ c.if1.true))
+    leading_more _ _ _ l.loop-i.invariant (inside c.before.before) (lt_yes (ap (λ z. lt_z z (row_of l)) (sym (is_row c.before)) ∙ c.if-v-y.true))
 
-returns : tie.Need-returns invariant-loop decreases-loop
+returns : tie.Need-returns-else-v-y invariant-loop decreases-loop
 returns c = let l = c.before.before.before in
-    subst (λ y. LeadsTo (points-of l) y l.loop.i) (read_back l.before.args.y l.before.ranges.y)
-    (leading_stops _ _ _ l.loop.invariant (λ _. lt_no (ap (λ z. lt_z z (row_of l)) (sym (is_row c.before)) ∙ c.if1.false)))
+    subst (λ y. LeadsTo (points-of l) y l.loop-i.i) (read_back l.args.y l.ranges.y)
+    (leading_stops _ _ _ l.loop-i.invariant (λ _. lt_no (ap (λ z. lt_z z (row_of l)) (sym (is_row c.before)) ∙ c.if-v-y.false)))
 
-returns-2 : tie.Need-returns-2 invariant-loop decreases-loop
+returns-2 : tie.Need-returns invariant-loop decreases-loop
 returns-2 c = let l = c.before in
-    subst (λ y. LeadsTo (points-of l) y l.loop.i) (read_back l.before.args.y l.before.ranges.y)
-    (leading_stops _ _ _ l.loop.invariant (λ h. absurd (omega (arith, h, points_length l.before.args.list.now, c.loop-test.false))))
+    subst (λ y. LeadsTo (points-of l) y l.loop-i.i) (read_back l.args.y l.ranges.y)
+    (leading_stops _ _ _ l.loop-i.invariant (λ h. absurd (omega (arith, h, points_length l.args.list.now, c.loop-i-test.false))))
 
-pub lead-spec : {M : Type 1} → statement M
-lead-spec =
+pub lead_spec : {M : Type 1} → statement M
+lead_spec =
     tie.close
     (tie.spec
     invariant-loop

@@ -12,25 +12,25 @@ use Rattle.rows.proofs.row_ends.Tie as tie
 sound-requires : tie.Need-sound-requires
 sound-requires c κs = search rules
 
-lead-requires : tie.Need-lead-requires
+lead-requires : tie.Need-lead-begin-requires
 lead-requires c κs = search rules
 
-run-requires : tie.Need-run-requires
+run-requires : tie.Need-run-end-requires
 run-requires c κs = search rules
 
-returns : tie.Need-returns
+returns : tie.Need-returns-then-sound
 returns c = let s = c.before.before.before.before in
-    let sound = tells_yes c.before.before.if1.true c.before.before.before.sound.ensures in
+    let sound = tells_yes c.if-sound.true c.sound.ensures in
     let y = read_back s.args.y s.ranges.y in
     inl (
       sound,
       ends_hold _ _ _ _ sound.order
-          (subst (λ y. LeadsTo (points s.args.list.now) y c.before.lead.result) y c.before.lead.ensures)
-          (subst (λ y. RunsTo (points s.args.list.now) y c.before.lead.result c.run.result) y c.run.ensures),
+          (subst (λ y. LeadsTo (points s.args.list.now) y c.lead-begin.result) y c.lead-begin.ensures)
+          (subst (λ y. RunsTo (points s.args.list.now) y c.lead-begin.result c.run-end.result) y c.run-end.ensures),
     )
 
-returns-2 : tie.Need-returns-2
-returns-2 c = inr (tells_no c.if1.false c.before.sound.ensures, refl, refl)
+returns-2 : tie.Need-returns
+returns-2 c = inr (tells_no c.if-sound.false c.sound.ensures, refl, refl)
 
-pub row-ends-spec : {M : Type 1} → statement M
-row-ends-spec = tie.close (tie.spec sound-requires lead-requires run-requires returns returns-2)
+pub row_ends_spec : {M : Type 1} → statement M
+row_ends_spec = tie.close (tie.spec sound-requires lead-requires run-requires returns returns-2)
