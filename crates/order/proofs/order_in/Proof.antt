@@ -6,51 +6,51 @@ use Rattle.order.proofs.Ordering.{FoundKeys, found_keys, order_declined, order_s
 use Rattle.order.proofs.order_in.Statement.{statement}
 use Rattle.order.proofs.order_in.Tie as tie
 
-find-requires : tie.Need-find-requires
+find-requires : tie.Need-find-found-requires
 find-requires c κs = search rules
 
-same_length : tie.Need-same-length
+same_length : tie.Need-shape_of-keys-then-number-ne0
 same_length c = search rules
 
-returns : tie.Need-returns
-returns c = let f = c.before.before.before.find in order_declined _ f.result.number f.result.place f.result.points c.if1.true f.ensures
+returns : tie.Need-returns-then-number-ne0
+returns c = let f = c.find-found in order_declined _ f.result.number f.result.place f.result.points c.if-number-ne0.true f.ensures
 
 -- the list is accepted: what `find` tells of it
-found : (c : tie.Else1)
-    → let f = c.before.before.before in FoundKeys f.before.before.before.args.list.now f.find.result f.find.new.1.0
-found c = found_keys c.if1.false c.before.before.before.find.ensures
+found : (c : tie.Else-number-ne0)
+    → let f = c in FoundKeys f.args.list.now f.find-found.result f.find-found.new.keys
+found c = found_keys c.if-number-ne0.false c.find-found.ensures
 
 declined-requires : tie.Need-declined-requires
 declined-requires c κs = search rules
 
-same-length-2 : tie.Need-same-length-2
+same-length-2 : tie.Need-shape_of-keys-then-room-n
 same-length-2 c = search rules
 
-returns-2 : tie.Need-returns-2
-returns-2 c = order_as c.declined.ensures (order_small _ (found c.before.before) c.before.if2.true)
+returns-2 : tie.Need-returns-then-room-n
+returns-2 c = order_as c.declined.ensures (order_small _ (found c.before.before) c.if-room-n.true)
 
-slice-reshare-prefix-write : tie.Need-slice-reshare-prefix-write
+slice-reshare-prefix-write : tie.Need-slice_bounds-write-end
 slice-reshare-prefix-write c = (found c.before).inside
 
-slice-aggregate-write : tie.Need-slice-aggregate-write
-slice-aggregate-write c = sym (found c.before.before).long
+slice-aggregate-write : tie.Need-slice_bounds-write-end-2
+slice-aggregate-write c = sym (found c.before).long
 
 write-requires : tie.Need-write-requires
-write-requires c κs = let f = found c.before.before.before in
-    (f.keys_are.below, omega (arith, f.long, c.before.before.if2.false))
+write-requires c κs = let f = found c.before.before in
+    (f.keys_are.below, omega (arith, f.long, c.if-room-n.false))
 
-same-length-3 : tie.Need-same-length-3
+same-length-3 : tie.Need-shape_of-room
 same-length-3 c = search rules
 
-same-length-4 : tie.Need-same-length-4
+same-length-4 : tie.Need-shape_of-keys
 same-length-4 c = search rules
 
-returns-3 : tie.Need-returns-3
-returns-3 c = let e = c.before.before.before.before in
-    order_done _ (found e.before) e.if2.false _ c.before.write.ensures
+returns-3 : tie.Need-returns
+returns-3 c = let e = c in
+    order_done _ (found e.before.before.before.before) e.if-room-n.false _ c.write.ensures
 
-pub order-in-spec : {M : Type 1} → statement M
-order-in-spec =
+pub order_in_spec : {M : Type 1} → statement M
+order_in_spec =
     tie.close
     (tie.spec
     find-requires

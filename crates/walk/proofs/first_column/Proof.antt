@@ -7,17 +7,17 @@ use Rattle.lattice.proofs.Numbers.{points_length}
 use Rattle.walk.proofs.first_column.Statement.{statement}
 use Rattle.walk.proofs.first_column.Tie as tie
 
-sub-if1 : tie.Need-overflow-sub-if1
+sub-if1 : tie.Need-overflow_sub-columns
 sub-if1 c = search rules
 
-cast-if1 : tie.Need-overflow-cast-if1
+cast-if1 : tie.Need-overflow_cast-columns
 cast-if1 c = search rules
 
-returns : tie.Need-returns
-returns c = inr (omega (arith, points_length c.before.before.args.row.now, c.if1.true), refl)
+returns : tie.Need-returns-then-row-columns
+returns c = inr (omega (arith, points_length c.args.row.now, c.if-row-columns.true), refl)
 
-returns-2 : tie.Need-returns-2
+returns-2 : tie.Need-returns
 returns-2 c = inl refl
 
-pub first-column-spec : {M : Type 1} → statement M
-first-column-spec = tie.close (tie.spec sub-if1 cast-if1 returns returns-2)
+pub first_column_spec : {M : Type 1} → statement M
+first_column_spec = tie.close (tie.spec sub-if1 cast-if1 returns returns-2)
