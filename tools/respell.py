@@ -34,10 +34,13 @@ BEFORE = {
     "in_size": ("in_size_lem", "Headers.antt"),
 }
 # Names that are not declared but bound: by `as`, or as a parameter.
-BOUND = "coordinateOf gainOf lossOf movedOf naturalOf packedOf refusedOf cornerRoom missingRoom".split()
+BOUND = (
+    "coordinateOf gainOf lossOf movedOf naturalOf packedOf refusedOf cornerRoom missingRoom ordered-pairs corner-pairs corner-wide missing-wide"
+    " on-a on-b on-p twice-area shared-left shared-right not-here not-8 not-9 not-10 below-a above-a"
+).split()
 # Declared by a proof file for a goal of its function: these follow what Rattle calls the goal.
 GOAL = re.compile(r"tie\.|goal\.|statement\b")
-SIGNATURE = re.compile(rf"^(\s*)((?:(?:pub|abbrev|unfoldable|private|mutual) )*)({WORD}(?: {WORD})*) :(?:\s|$)(.*)")
+SIGNATURE = re.compile(rf"^(\s*)((?:(?:pub|abbrev|unfoldable|private|mutual) )*)({WORD}(?: {WORD})*)(?: \{{ℓ\}})? :(?:\s|$)(.*)")
 HEAD = re.compile(rf"^(\s*)(?:(?:pub|abbrev|unfoldable) )*(record|data|module|use|where|ruleset)\b")
 
 

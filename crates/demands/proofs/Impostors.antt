@@ -80,22 +80,22 @@ d_sound = sound_by_test grain_d (λ h. omega (arith, h)) (omega arith) tt tt
 module _ (ordered corners missing : List ℤ) (a : Reported) (ordered' corners' missing' : List ℤ) where
   of_B : RoomFor 1 ordered → RoomFor 1 corners → ReportPromise grain_b ordered corners missing a ordered' corners' missing'
       → (a.number ≡ 0) × Begins (at 5 5 ∷ []) a.corners corners corners'
-  of_B wide corner-wide h =
-      let r = report_of_sound grain_b ordered corners missing (at 5 5 ∷ []) [] b_sound b_corners b_missing wide corner-wide (omega arith)
+  of_B wide corner_wide h =
+      let r = report_of_sound grain_b ordered corners missing (at 5 5 ∷ []) [] b_sound b_corners b_missing wide corner_wide (omega arith)
       a ordered' corners' missing' h in
       (r.0, r.2)
 
   of_D : RoomFor 2 ordered → RoomFor 2 corners → RoomFor 1 missing → ReportPromise grain_d ordered corners missing a ordered' corners' missing'
       → Begins (at 0 0 ∷ at 2 4 ∷ []) a.corners corners corners' × Begins (at 1 2 ∷ []) a.missing missing missing'
-  of_D wide corner-wide missing-wide h =
+  of_D wide corner_wide missing_wide h =
       let r = report_of_sound grain_d ordered corners missing (at 0 0 ∷ at 2 4 ∷ []) (at 1 2 ∷ []) d_sound d_corners d_missing
-      wide corner-wide missing-wide a ordered' corners' missing' h in
+      wide corner_wide missing_wide a ordered' corners' missing' h in
       (r.2, r.3)
 
   -- "One that declines everything: the table says when each number is given and that it isn't given otherwise, under demand 1."
   pub declining_everything_caught : RoomFor 1 ordered → RoomFor 1 corners → (a.number ≡ 0 → ⊥)
       → ReportPromise grain_b ordered corners missing a ordered' corners' missing' → ⊥
-  declining_everything_caught wide corner-wide declines h = declines (of_B wide corner-wide h).0
+  declining_everything_caught wide corner_wide declines h = declines (of_B wide corner_wide h).0
 
   -- "One that reports every grain alike: demand 2 at A and B": no outcome is allowed for both, in whatever rooms
   pub reporting_alike_caught : ReportPromise grain_a ordered corners missing a ordered' corners' missing'
@@ -117,15 +117,15 @@ module _ (ordered corners missing : List ℤ) (a : Reported) (ordered' corners' 
 
   pub invented_count_at_D_caught : RoomFor 2 ordered → RoomFor 2 corners → RoomFor 1 missing → (a.missing ≡ 1 → ⊥)
       → ReportPromise grain_d ordered corners missing a ordered' corners' missing' → ⊥
-  invented_count_at_D_caught wide corner-wide missing-wide other h = other (of_D wide corner-wide missing-wide h).1.counted
+  invented_count_at_D_caught wide corner_wide missing_wide other h = other (of_D wide corner_wide missing_wide h).1.counted
 
   -- "The fifth orders the points in Report and only claims corners and missing points: demand 2 at D": whatever it claims, D's corners and D's
   -- missing point have to stand in the rooms
   pub only_claiming_caught : RoomFor 2 ordered → RoomFor 2 corners → RoomFor 1 missing
       → ((take 4 corners' ≡ numbers (at 0 0 ∷ at 2 4 ∷ [])) × (take 2 missing' ≡ numbers (at 1 2 ∷ [])) → ⊥)
       → ReportPromise grain_d ordered corners missing a ordered' corners' missing' → ⊥
-  only_claiming_caught wide corner-wide missing-wide unwritten h =
-      let r = of_D wide corner-wide missing-wide h in
+  only_claiming_caught wide corner_wide missing_wide unwritten h =
+      let r = of_D wide corner_wide missing_wide h in
       unwritten (
         ap (λ n. take (2 * n) corners') (sym r.0.counted) ∙ r.0.front,
         ap (λ n. take (2 * n) missing') (sym r.1.counted) ∙ r.1.front,
@@ -134,6 +134,6 @@ module _ (ordered corners missing : List ℤ) (a : Reported) (ordered' corners' 
 -- "One that writes nothing: the corners of B under demand 2": the corner room reads as before, and did not begin with (5,5)
 pub writing_nothing_caught : (ordered corners missing : List ℤ) (a : Reported) (ordered' missing' : List ℤ) → RoomFor 1 ordered → RoomFor 1 corners
     → (take 2 corners ≡ numbers (at 5 5 ∷ []) → ⊥) → ReportPromise grain_b ordered corners missing a ordered' corners missing' → ⊥
-writing_nothing_caught ordered corners missing a ordered' missing' wide corner-wide other h =
-    let b = (of_B ordered corners missing a ordered' corners missing' wide corner-wide h).1 in
+writing_nothing_caught ordered corners missing a ordered' missing' wide corner_wide other h =
+    let b = (of_B ordered corners missing a ordered' corners missing' wide corner_wide h).1 in
     other (ap (λ n. take (2 * n) corners) (sym b.counted) ∙ b.front)

@@ -184,11 +184,11 @@ pub rebuilt_reports_back : (corners missing room : List ℤ) (b : Rebuilt) (afte
     → ReportPromise (take (2 * b.points) after) ordered corner_room missing_room a ordered' corners' missing'
     → (a.number ≡ 0) × (a.points ≡ b.points) × (take (2 * a.points) ordered' ≡ take (2 * b.points) after)
     × (take (2 * a.corners) corners' ≡ corners) × (take (2 * a.missing) missing' ≡ missing)
-rebuilt_reports_back corners missing room b after h e ordered corner_room missing_room wide corner-wide missing-wide a ordered' corners' missing' g =
+rebuilt_reports_back corners missing room b after h e ordered corner_room missing_room wide corner_wide missing_wide a ordered' corners' missing' g =
     let list = take (2 * b.points) after in
     let y = yields corners missing room b after h e in
     let r = report_of_sound list ordered corner_room missing_room (points corners) (points missing) y.sound y.corner y.missed
-    (omega (arith, wide, y.counted)) corner-wide missing-wide a ordered' corners' missing' g in (
+    (omega (arith, wide, y.counted)) corner_wide missing_wide a ordered' corners' missing' g in (
       r.0,
       r.1.counted ∙ sym y.counted,
       r.1.front ∙ even_numbers list y.sound.even,

@@ -41,7 +41,7 @@ pub report_accepts : (list ordered corners missing : List ℤ) (c m : List Point
     → CornerList (points list) c → MissingList (points list) m
     → RoomFor (length (points list)) ordered → RoomFor (length c) corners → RoomFor (length m) missing
     → NoneApplies (report_rows list ordered corners missing accepted)
-report_accepts list ordered corners missing c m (odd, (more, (outside, (repeats, t)))) h g wide corner-wide missing-wide = (
+report_accepts list ordered corners missing c m (odd, (more, (outside, (repeats, t)))) h g wide corner_wide missing_wide = (
   odd,
   (
     more,
@@ -52,8 +52,8 @@ report_accepts list ordered corners missing c m (odd, (more, (outside, (repeats,
         (
           whole_never (λ small. omega (arith, small, wide)),
           (
-            whole_never (λ w. omega (arith, w.small, corner-wide, ap length (corner_list_unique (points list) w.corners c w.listed h))),
-            (whole_never (λ w. omega (arith, w.small, missing-wide, ap length (missing_list_unique (points list) w.missing m w.listed g))), tt),
+            whole_never (λ w. omega (arith, w.small, corner_wide, ap length (corner_list_unique (points list) w.corners c w.listed h))),
+            (whole_never (λ w. omega (arith, w.small, missing_wide, ap length (missing_list_unique (points list) w.missing m w.listed g))), tt),
           ),
         ),
       ),

@@ -125,9 +125,9 @@ pub report_of_sound : (list ordered corners missing : List ℤ) (c m : List Poin
     → (a : Reported) (ordered' corners' missing' : List ℤ) → ReportPromise list ordered corners missing a ordered' corners' missing'
     → (a.number ≡ 0) × Begins (points list) a.points ordered ordered' × Begins c a.corners corners corners'
     × Begins m a.missing missing missing' × Says (points list) m a.verdict (record { x = a.x; y = a.y })
-report_of_sound list ordered corners missing c m sound g k wide corner-wide missing-wide a ordered' corners' missing' h =
+report_of_sound list ordered corners missing c m sound g k wide corner_wide missing_wide a ordered' corners' missing' h =
     let e = (report_ruled list ordered corners missing a ordered' corners' missing' h).exactly.1
-    (report_accepts list ordered corners missing c m (sound_passes list sound) g k wide corner-wide missing-wide) in
+    (report_accepts list ordered corners missing c m (sound_passes list sound) g k wide corner_wide missing_wide) in
     let r = report_published list ordered corners missing a ordered' corners' missing' h e (points list) c m
     (record { every = λ p i. i; only = λ p i. i; order = sound.order }) g k in
     (e, r.0, r.1, r.2, r.3)

@@ -76,10 +76,10 @@ rebuild_owes c m s h o f g = (
 -- corners and missing points that Rebuild does not decline by number 8, 9 or 10
 pub rebuild_accepts : (c m : List Point) (later : Table) (n i : ℕ) → Gives (rebuild_rows c m later) n i
     → (n ≡ 8 → ⊥) → (n ≡ 9 → ⊥) → (n ≡ 10 → ⊥) → CornerList c c × Pairs Before m × All (λ p. Misplaced c p → ⊥) m
-rebuild_accepts c m later n i g not-8 not-9 not-10 =
-    either g (λ h. absurd (not-8 h.0))
-    (λ h. either h.1 (λ k. absurd (not-9 k.0))
-    (λ k. either k.1 (λ l. absurd (not-10 l.0))
+rebuild_accepts c m later n i g not_8 not_9 not_10 =
+    either g (λ h. absurd (not_8 h.0))
+    (λ h. either h.1 (λ k. absurd (not_9 k.0))
+    (λ k. either k.1 (λ l. absurd (not_10 l.0))
     (λ l. (corners h.0, in_order k.0, place_all (λ p. Misplaced c p → ⊥) m (λ j f e. l.0 j (f, e))))))
   where
     corners : ((j : ℕ) → Whole (CornerList c c → ⊥) j → ⊥) → CornerList c c

@@ -43,7 +43,7 @@ module _ (P : ℕ → Type 0) (n : ℕ) where
   abbrev pub one_more : Search P n → P n ⊎ (P n → ⊥) → Search P (suc n)
   one_more (inl f) d = inl (f.0, omega (arith, f.1), f.2)
   one_more (inr none) (inl h) = inl (n, omega arith, record { here = h; earlier = none })
-  one_more (inr none) (inr not-here) = inr (λ j l h. either (lt_or_le j n) (λ k. none j k h) (λ k. not-here (subst P (end j l k) h)))
+  one_more (inr none) (inr not_here) = inr (λ j l h. either (lt_or_le j n) (λ k. none j k h) (λ k. not_here (subst P (end j l k) h)))
     where
       end : (j : ℕ) → j < suc n → n ≤ j → j ≡ n
       end j l k = omega arith

@@ -86,7 +86,7 @@ far_pair_convex n p h = by_column (le_or_lt p.x (pos 0))
 
 -- ---- Pick's formula, from twice the area and the points on the border
 abbrev pub pick : ℕ → ℕ → ℕ
-pick twice-area border = (twice-area + border + 2) / 2
+pick twice_area border = (twice_area + border + 2) / 2
 
 -- on the empty grain it counts 1, and there is no lattice point
 pub pick_miscounts_nothing : (pick 0 0 ≡ 1) × Lists (InHull (Of [])) []

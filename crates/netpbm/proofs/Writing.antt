@@ -50,8 +50,8 @@ module _ (raster : ℕ → ℕ → Raster) (at all width : ℕ) (list₀ list : 
       let e : suc (all - (k + 1)) ≡ all - k = omega arith in
       sym (f (all - (k + 1))) ∙ ap (λ m. raster m i) e ∙ h.left
 
-  pub writing-fault {ℓ} : {X : Type ℓ} (number place : ℕ) → ((m : ℕ) → raster (suc m) i ≡ fault number place) → X
-  writing-fault number place f =
+  pub writing_fault {ℓ} : {X : Type ℓ} (number place : ℕ) → ((m : ℕ) → raster (suc m) i ≡ fault number place) → X
+  writing_fault number place f =
       let e = fetched (fault number place) f in
       absurd (let z : ◌≡◌ {A = ℕ} 0 1 = cc in omega arith)
 

@@ -78,8 +78,8 @@ squeezed f s least greatest i j u v h =
 
 at_one : (f : Point → ℤ) (a : Point) {m n z : ℤ} → Least f (a ∷ []) m → Greatest f (a ∷ []) n → m ≤ᶻ z → z ≤ᶻ n → z ≡ f a
 at_one f a least greatest i j =
-    let (above-a, below-a) = squeezed f (a ∷ []) least greatest i j (f a) (f a) ((le_of_equal refl, le_of_equal refl), tt) in
-    antisymmetric below-a above-a
+    let (above_a, below_a) = squeezed f (a ∷ []) least greatest i j (f a) (f a) ((le_of_equal refl, le_of_equal refl), tt) in
+    antisymmetric below_a above_a
 
 between_two : (f : Point → ℤ) (a b : Point) {m n z : ℤ} → Least f (a ∷ b ∷ []) m → Greatest f (a ∷ b ∷ []) n
     → m ≤ᶻ z → z ≤ᶻ n → Between (f a) (f b) z

@@ -110,12 +110,12 @@ pub number_overlap : {W T Q S : Point → Type 0} {t q s : ℤ} → ((p : Point)
     → ((p : Point) → W p → T p ⊎ Q p) → ((p : Point) → T p → W p) → ((p : Point) → Q p → W p)
     → ((p : Point) → S p → T p) → ((p : Point) → S p → Q p) → ((p : Point) → T p → Q p → S p)
     → Number T t → Number Q q → Number S s → Number W (t +ℤ q -ℤ s)
-number_overlap {W} {T} {Q} {S} {t} {q} {s} decide split left right shared-left shared-right shared nt nq ns =
+number_overlap {W} {T} {Q} {S} {t} {q} {s} decide split left right shared_left shared_right shared nt nq ns =
     let r = number_part {D = λ p. T p → ⊥} (λ p. negated (decide p)) nq in
     let e : q ≡ s +ℤ r.0 = number_unique nq
-    (number_same (λ p h. either h (shared-right p) (λ k. k.0))
+    (number_same (λ p h. either h (shared_right p) (λ k. k.0))
     (λ p h. either (yes_or_no (decide p)) (λ k. inl (shared p k h)) (λ n. inr (h, n)))
-    (number_union (λ p h k. k.1 (shared-left p h)) ns r.1)) in
+    (number_union (λ p h k. k.1 (shared_left p h)) ns r.1)) in
     number_equal (linear≡ (t ∷ q ∷ s ∷ r.0 ∷ []) (negsuc 0 ∗≡ e) (search quote depth 20) tt)
     (number_same (λ p h. either h (left p) (λ k. right p k.0))
     (λ p h. either (yes_or_no (decide p)) (λ k. inl k) (λ n. either (split p h) (λ k. inl k) (λ k. inr (k, n))))

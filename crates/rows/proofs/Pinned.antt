@@ -15,14 +15,14 @@ use Rattle.rows.specs.declared.Ends.{Ends}
 use Rattle.rows.specs.Row.{Holds, RowEndsPromise, RowPromise}
 
 -- ---- Row ends
-below-and-at {ℓ} : {X : Type ℓ} (a y : ℤ) → a <ℤ y → a ≡ y → X
-below-and-at a y h e = linear⊥ (a ∷ y ∷ []) (gap< h ⊞ negsuc 0 ⋆≡ e) (search quote depth 20) tt
+below_and_at {ℓ} : {X : Type ℓ} (a y : ℤ) → a <ℤ y → a ≡ y → X
+below_and_at a y h e = linear⊥ (a ∷ y ∷ []) (gap< h ⊞ negsuc 0 ⋆≡ e) (search quote depth 20) tt
 
-below-and-above {ℓ} : {X : Type ℓ} (a y : ℤ) → a <ℤ y → y <ℤ a → X
-below-and-above a y h g = linear⊥ (a ∷ y ∷ []) (gap< h ⊞ gap< g) (search quote depth 20) tt
+below_and_above {ℓ} : {X : Type ℓ} (a y : ℤ) → a <ℤ y → y <ℤ a → X
+below_and_above a y h g = linear⊥ (a ∷ y ∷ []) (gap< h ⊞ gap< g) (search quote depth 20) tt
 
-above-and-at {ℓ} : {X : Type ℓ} (a y : ℤ) → y <ℤ a → a ≡ y → X
-above-and-at a y h e = linear⊥ (a ∷ y ∷ []) (gap< h ⊞ pos 1 ⋆≡ e) (search quote depth 20) tt
+above_and_at {ℓ} : {X : Type ℓ} (a y : ℤ) → y <ℤ a → a ≡ y → X
+above_and_at a y h e = linear⊥ (a ∷ y ∷ []) (gap< h ⊞ pos 1 ⋆≡ e) (search quote depth 20) tt
 
 module _ (l : List Point) (y : ℤ) (b e b' e' : ℕ) (h : Holds l y b e) (g : Holds l y b' e') where
   begin_le : b ≤ b'
@@ -30,8 +30,8 @@ module _ (l : List Point) (y : ℤ) (b e b' e' : ℕ) (h : Holds l y b e) (g : H
       either (lt_or_le b' b)
       (λ k. let earlier = h.before b' k in
       either (lt_or_le b' e')
-      (λ m. below-and-at (point l b').y y earlier (g.within b' (omega arith) m))
-      (λ m. below-and-above (point l b').y y earlier (g.after b' m (omega (arith, h.rising, h.inside)))))
+      (λ m. below_and_at (point l b').y y earlier (g.within b' (omega arith) m))
+      (λ m. below_and_above (point l b').y y earlier (g.after b' m (omega (arith, h.rising, h.inside)))))
       (λ k. k)
 
   end_le : e ≤ e'
@@ -39,8 +39,8 @@ module _ (l : List Point) (y : ℤ) (b e b' e' : ℕ) (h : Holds l y b e) (g : H
       either (lt_or_le e' e)
       (λ k. let later = g.after e' (omega arith) (omega (arith, h.inside)) in
       either (lt_or_le e' b)
-      (λ m. below-and-above (point l e').y y (h.before e' m) later)
-      (λ m. above-and-at (point l e').y y later (h.within e' m k)))
+      (λ m. below_and_above (point l e').y y (h.before e' m) later)
+      (λ m. above_and_at (point l e').y y later (h.within e' m k)))
       (λ k. k)
 
 pub row_ends_pinned : (list : List ℤ) (y : ℤ) (a b : Ends) → RowEndsPromise list y a → RowEndsPromise list y b → a ≡ b

@@ -27,10 +27,10 @@ use Rattle.stretch.proofs.Rowing.{cornered_of, Between, in_hull, cells_between, 
 
 -- ---- an edge u v with a, b on its left, and p between their rows on the left of the way from a up to b, down to b
 -- where u v rises, p is on the left of u v as well
-module _ (u v a b p : Point) (on-a : NonNegative (turn u v a)) (on-b : NonNegative (turn u v b)) (on-p : NonNegative (turn a b p)) where
+module _ (u v a b p : Point) (on_a : NonNegative (turn u v a)) (on_b : NonNegative (turn u v b)) (on_p : NonNegative (turn a b p)) where
   up_left : a.y <ℤ b.y → a.y ≤ℤ p.y → p.y ≤ℤ b.y → u.y ≤ℤ v.y → NonNegative (turn u v p)
   up_left steep low high up =
-      nonnegative_factor (subst NonNegative (sym identity) (rest ⊠ on-a ⊞ passed ⊠ on-b ⊞ rise ⊠ on-p)) height
+      nonnegative_factor (subst NonNegative (sym identity) (rest ⊠ on_a ⊞ passed ⊠ on_b ⊞ rise ⊠ on_p)) height
     where
       identity : (b.y -ℤ a.y) *ℤ turn u v p ≡ (b.y -ℤ p.y) *ℤ turn u v a +ℤ ((p.y -ℤ a.y) *ℤ turn u v b +ℤ (v.y -ℤ u.y) *ℤ turn a b p)
       identity = ring (coordinates (u ∷ v ∷ a ∷ b ∷ p ∷ [])) (search quote depth 20) tt
@@ -49,7 +49,7 @@ module _ (u v a b p : Point) (on-a : NonNegative (turn u v a)) (on-b : NonNegati
 
   down_left : b.y <ℤ a.y → b.y ≤ℤ p.y → p.y ≤ℤ a.y → v.y ≤ℤ u.y → NonNegative (turn u v p)
   down_left steep low high down =
-      nonnegative_factor (subst NonNegative (sym identity) (passed ⊠ on-a ⊞ rest ⊠ on-b ⊞ fall ⊠ on-p)) height
+      nonnegative_factor (subst NonNegative (sym identity) (passed ⊠ on_a ⊞ rest ⊠ on_b ⊞ fall ⊠ on_p)) height
     where
       identity : (a.y -ℤ b.y) *ℤ turn u v p ≡ (p.y -ℤ b.y) *ℤ turn u v a +ℤ ((a.y -ℤ p.y) *ℤ turn u v b +ℤ (u.y -ℤ v.y) *ℤ turn a b p)
       identity = ring (coordinates (u ∷ v ∷ a ∷ b ∷ p ∷ [])) (search quote depth 20) tt

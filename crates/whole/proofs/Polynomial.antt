@@ -112,18 +112,18 @@ NotNegative (term (pos c) (i ∷ m) p) = term (pos c) (i ∷ m) p ≡ nil
 NotNegative (term (negsuc c) m p) = term (negsuc c) m p ≡ nil
 
 -- ---- the normal form has the value of the expression
-choose-cases {ℓ} : {A : Type ℓ} (o : Ordering) (x y z : A) (P : A → Type 0)
+choose_cases {ℓ} : {A : Type ℓ} (o : Ordering) (x y z : A) (P : A → Type 0)
     → P x → (T (compare_is_eq o) → P y) → P z → P (choose o x y z)
-choose-cases Ordering.lt x y z P l e g = l
-choose-cases Ordering.eq x y z P l e g = e tt
-choose-cases Ordering.gt x y z P l e g = g
+choose_cases Ordering.lt x y z P l e g = l
+choose_cases Ordering.eq x y z P l e g = e tt
+choose_cases Ordering.gt x y z P l e g = g
 
 monomials_equal : (m n : List ℕ) → T (compare_is_eq (compare_monomials m n)) → m ≡ n
 monomials_equal [] [] t = refl
 monomials_equal [] (j ∷ n) t = absurd t
 monomials_equal (i ∷ m) [] t = absurd t
 monomials_equal (i ∷ m) (j ∷ n) t =
-    choose-cases (compare i j) Ordering.lt (compare_monomials m n) Ordering.gt (λ o. T (compare_is_eq o) → i ∷ m ≡ j ∷ n)
+    choose_cases (compare i j) Ordering.lt (compare_monomials m n) Ordering.gt (λ o. T (compare_is_eq o) → i ∷ m ≡ j ∷ n)
     (λ u. absurd u)
     (λ e u. ap (λ x. x ∷ m) (eqb→eq i j e) ∙ ap (λ x. j ∷ x) (monomials_equal m n u))
     (λ u. absurd u) t
@@ -141,7 +141,7 @@ module _ (ρ : List ℤ) where
   unfolding monomial
   insert_value i [] = refl
   insert_value i (j ∷ m) =
-      choose-cases (compare i j) (i ∷ j ∷ m) (i ∷ j ∷ m) (j ∷ insert i m) (λ r. monomial r ≡ at ρ i *ℤ monomial (j ∷ m))
+      choose_cases (compare i j) (i ∷ j ∷ m) (i ∷ j ∷ m) (j ∷ insert i m) (λ r. monomial r ≡ at ρ i *ℤ monomial (j ∷ m))
       refl
       (λ e. refl)
       (ap (λ x. at ρ j *ℤ x) (insert_value i m) ∙ *ℤ-left-comm (at ρ j) (at ρ i) (monomial m))
@@ -167,7 +167,7 @@ module _ (ρ : List ℤ) where
   merge_value c m p f h nil =
       ap (λ x. c *ℤ monomial m +ℤ x) (h nil) ∙ sym (+ℤ_assoc (c *ℤ monomial m) (polynomial p) (pos zero))
   merge_value c m p f h (term d n q) =
-      choose-cases (compare_monomials m n) (term c m (f (term d n q))) (front (c +ℤ d) n (f q)) (term d n (merge c m f q))
+      choose_cases (compare_monomials m n) (term c m (f (term d n q))) (front (c +ℤ d) n (f q)) (term d n (merge c m f q))
       (λ r. polynomial r ≡ c *ℤ monomial m +ℤ polynomial p +ℤ polynomial (term d n q))
       (ap (λ x. c *ℤ monomial m +ℤ x) (h (term d n q))
       ∙ sym (+ℤ_assoc (c *ℤ monomial m) (polynomial p) (polynomial (term d n q))))

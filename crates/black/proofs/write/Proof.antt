@@ -8,7 +8,7 @@ use native.Mathlib.Omega.{arith}
 use lib.ListN.{length, drop}
 use Rattle.lattice.specs.Point.{most}
 use Rattle.netpbm.specs.Raster.{Raster, onto}
-use Rattle.netpbm.proofs.Writing.{Writing, writing_none, writing_black, writing_white, writing_passed, writing-fault, writing_length, writing_ends, room_left}
+use Rattle.netpbm.proofs.Writing.{Writing, writing_none, writing_black, writing_white, writing_passed, writing_fault, writing_length, writing_ends, room_left}
 use Rattle.plain.specs.Plain.{plain_at}
 use Rattle.plain.specs.Steps.{Fetches}
 use Rattle.plain.proofs.Plain.{none_left}
@@ -137,7 +137,7 @@ same_length c = long c.before.before.before.before
 
 returns : tie.Need-returns invariant-loop decreases-loop
 returns c = let h = c.before.before.before.before in
-    writing-fault _ _ _ _ _ _ _ _ _ h.loop.invariant.0 c.before.before.before.loop-test.true _ _
+    writing_fault _ _ _ _ _ _ _ _ _ h.loop.invariant.0 c.before.before.before.loop-test.true _ _
     (subst (Fetches (raster h) h.loop.i) c.enum_told.given.1 c.before.before.fetch.ensures)
 
 same-length-2 : tie.Need-same-length-2 invariant-loop decreases-loop
