@@ -8,14 +8,14 @@ use Rattle.hull.proofs.hull.Tie as tie
 within-requires : tie.Need-within-requires
 within-requires c κs = search rules
 
-same_length : tie.Need-same-length
+same_length : tie.Need-shape_of-ordered
 same_length c = search rules
 
-same-length-2 : tie.Need-same-length-2
+same-length-2 : tie.Need-shape_of-corners
 same-length-2 c = search rules
 
 returns : tie.Need-returns
-returns c = without_limit _ _ _ _ _ _ _ (omega arith) c.before.before.within.ensures
+returns c = without_limit _ _ _ _ _ _ _ (omega arith) c.within.ensures
 
-pub hull-spec : {M : Type 1} → statement M
-hull-spec = tie.close (tie.spec within-requires same_length same-length-2 returns)
+pub hull_spec : {M : Type 1} → statement M
+hull_spec = tie.close (tie.spec within-requires same_length same-length-2 returns)

@@ -5,17 +5,17 @@ use Rattle.hull.proofs.Hulling.{none_more, tells_more}
 use Rattle.hull.proofs.leaves_more.Statement.{statement}
 use Rattle.hull.proofs.leaves_more.Tie as tie
 
-returns : tie.Need-returns
-returns c = none_more _ c.before.before.requires.0 _ (omega (arith, c.if1.true))
+returns : tie.Need-returns-then-limit-ge-CELLS
+returns c = none_more _ c.requires.0 _ (omega (arith, c.if-limit-ge-CELLS.true))
 
-add-result : tie.Need-overflow-add-result
+add-result : tie.Need-overflow_add-result
 add-result c = search rules
 
 count-requires : tie.Need-count-requires
 count-requires c κs = search rules
 
-returns-2 : tie.Need-returns-2
-returns-2 c = tells_more c.before.before.before.args.corners.now _ _ c.count.ensures
+returns-2 : tie.Need-returns
+returns-2 c = tells_more c.args.corners.now _ _ c.count.ensures
 
-pub leaves-more-spec : {M : Type 1} → statement M
-leaves-more-spec = tie.close (tie.spec returns add-result count-requires returns-2)
+pub leaves_more_spec : {M : Type 1} → statement M
+leaves_more_spec = tie.close (tie.spec returns add-result count-requires returns-2)
