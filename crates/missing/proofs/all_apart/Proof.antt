@@ -13,52 +13,52 @@ use Rattle.packed.proofs.KeysOf.{keys_many, keys_length, key_point, corner_reada
 use Rattle.range.proofs.Passing.{Passing, passing_none, passing_more}
 use Rattle.missing.proofs.Seeking.{all_apart}
 
-abbrev invariant-loop : tie.invariant-loop
+abbrev invariant-loop : tie.invariant-loop-i
 invariant-loop corners missing n i₀ i = Passing (length (keys_of corners)) (λ j. In (point (points corners) j) (points missing)) i
 
-abbrev decreases-loop : tie.decreases-loop
+abbrev decreases-loop : tie.decreases-loop-i
 decreases-loop corners missing n i₀ i = n - i
 
-returns : tie.Need-returns invariant-loop decreases-loop
+returns : tie.Need-returns-then-missing-lt-SHORT invariant-loop decreases-loop
 returns c = λ e. let z : ◌≡◌ {A = ℕ} 0 1 = cc in absurd (omega arith)
 
-loop-holds : tie.Need-loop-init invariant-loop decreases-loop
+loop-holds : tie.Need-loop-i-init invariant-loop decreases-loop
 loop-holds c = passing_none _ _
 
 -- in a turn the place is that of a corner
-inside : (c : tie.In-loop invariant-loop decreases-loop) → c.before.loop.i < length (keys_of c.before.before.before.args.corners.now)
-inside c = omega (arith, keys_length c.before.before.before.args.corners.now, c.loop-test.true)
+inside : (c : tie.In-loop-i invariant-loop decreases-loop) → c.loop-i.i < length (keys_of c.args.corners.now)
+inside c = omega (arith, keys_length c.args.corners.now, c.loop-i-test.true)
 
-key_at_requires : tie.Need-key-at-requires invariant-loop decreases-loop
-key_at_requires c κs = corner_readable c.before.before.before.requires.0 c.before.loop.i (inside c)
+key_at_requires : tie.Need-key_at-requires invariant-loop decreases-loop
+key_at_requires c κs = corner_readable c.requires.0 c.loop-i.i (inside c)
 
-is-missing-requires : tie.Need-is-missing-requires invariant-loop decreases-loop
+is-missing-requires : tie.Need-is_missing-requires invariant-loop decreases-loop
 is-missing-requires c κs = let a = c.before.before.before.before in (a.requires.1, a.requires.2)
 
-returns-2 : tie.Need-returns-2 invariant-loop decreases-loop
+returns-2 : tie.Need-returns-then-is_missing invariant-loop decreases-loop
 returns-2 c = λ e. let z : ◌≡◌ {A = ℕ} 0 1 = cc in absurd (omega arith)
 
-add-i : tie.Need-overflow-add-i invariant-loop decreases-loop
+add-i : tie.Need-overflow_add-i invariant-loop decreases-loop
 add-i c = omega arith
 
-loop-less : tie.Need-loop-smaller invariant-loop decreases-loop
+loop-less : tie.Need-loop-i-smaller invariant-loop decreases-loop
 loop-less c = omega arith
 
-loop-again : tie.Need-loop-preserved invariant-loop decreases-loop
+loop-again : tie.Need-loop-i-preserved invariant-loop decreases-loop
 loop-again c = let k = c.before.before in
     let t = k.before in
     let a = t.before.before.before in
-    let e = ap unpacked k.key-at.ensures.2 ∙ key_point a.args.corners.now a.requires.0.range t.before.loop.i (inside t) in
-    passing_more _ _ _ t.before.loop.invariant (inside t)
-    (subst (λ p. In p (points a.args.missing.now) → ⊥) e (tells_no c.if2.false c.before.is-missing.ensures))
+    let e = ap unpacked k.key_at.ensures.2 ∙ key_point a.args.corners.now a.requires.0.range t.loop-i.i (inside t) in
+    passing_more _ _ _ t.loop-i.invariant (inside t)
+    (subst (λ p. In p (points a.args.missing.now) → ⊥) e (tells_no c.if-is_missing.false c.is_missing.ensures))
 
-returns-3 : tie.Need-returns-3 invariant-loop decreases-loop
+returns-3 : tie.Need-returns invariant-loop decreases-loop
 returns-3 c = let a = c.before.before.before in
     let l = a.args.corners.now in
-    λ _. all_apart l a.args.missing.now _ _ c.before.loop.invariant (omega (arith, keys_many l, keys_length l, c.loop-test.false))
+    λ _. all_apart l a.args.missing.now _ _ c.loop-i.invariant (omega (arith, keys_many l, keys_length l, c.loop-i-test.false))
 
-pub all-apart-spec : {M : Type 1} → statement M
-all-apart-spec =
+pub all_apart_spec : {M : Type 1} → statement M
+all_apart_spec =
     tie.close
     (tie.spec
     invariant-loop

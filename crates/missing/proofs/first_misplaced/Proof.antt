@@ -6,19 +6,19 @@ use native.Mathlib.Omega.{arith}
 use Rattle.lattice.proofs.Numbers.{points_length}
 use Rattle.missing.proofs.Misplacing.{none_inside}
 
-returns : tie.Need-returns
-returns c = let l = c.before.args.corners.now in
-    none_inside l (omega (arith, points_length l, c.if1.true)) c.before.args.missing.now
+returns : tie.Need-returns-then-corners-lt2
+returns c = let l = c.args.corners.now in
+    none_inside l (omega (arith, points_length l, c.if-corners-lt2.true)) c.args.missing.now
 
 peak-requires : tie.Need-peak-requires
-peak-requires c κs = (c.before.requires.0, omega (arith, points_length c.before.args.corners.now, c.if1.false))
+peak-requires c κs = (c.requires.0, omega (arith, points_length c.args.corners.now, c.if-corners-lt2.false))
 
-misplaced-by-rows-requires : tie.Need-misplaced-by-rows-requires
+misplaced-by-rows-requires : tie.Need-misplaced_by_rows-requires
 misplaced-by-rows-requires c κs = search rules
 
-returns-2 : tie.Need-returns-2
+returns-2 : tie.Need-returns
 returns-2 c = search rules
 
-pub first-misplaced-spec : {M : Type 1} → statement M
-first-misplaced-spec =
+pub first_misplaced_spec : {M : Type 1} → statement M
+first_misplaced_spec =
     tie.close (tie.spec returns peak-requires misplaced-by-rows-requires returns-2)

@@ -11,18 +11,18 @@ use Rattle.packed.proofs.Tests.{tells_yes}
 use Rattle.range.proofs.Passing.{passing_all}
 use Rattle.missing.proofs.Straying.{none_stray}
 
-all-follow-requires : tie.Need-all-follow-requires
+all-follow-requires : tie.Need-all_follow-requires
 all-follow-requires c κs = search rules
 
-returns : tie.Need-returns
-returns c = let l = c.before.before.args.missing.now in
-    passing_all (length (points l)) (Strays (points l)) _ (sym (points_length l)) (none_stray (points l) (tells_yes c.if1.true c.before.all-follow.ensures))
+returns : tie.Need-returns-then-all_follow
+returns c = let l = c.args.missing.now in
+    passing_all (length (points l)) (Strays (points l)) _ (sym (points_length l)) (none_stray (points l) (tells_yes c.if-all_follow.true c.all_follow.ensures))
 
-find-stray-requires : tie.Need-find-stray-requires
+find-stray-requires : tie.Need-find_stray-requires
 find-stray-requires c κs = search rules
 
-returns-2 : tie.Need-returns-2
+returns-2 : tie.Need-returns
 returns-2 c = search rules
 
-pub first-stray-spec : {M : Type 1} → statement M
-first-stray-spec = tie.close (tie.spec all-follow-requires returns find-stray-requires returns-2)
+pub first_stray_spec : {M : Type 1} → statement M
+first_stray_spec = tie.close (tie.spec all-follow-requires returns find-stray-requires returns-2)
