@@ -10,9 +10,9 @@ mean-requires-2 : tie.Need-mean-requires-2
 mean-requires-2 c κs = search rules
 
 returns : tie.Need-returns
-returns c = let x = c.before.mean.ensures in
-    let y = c.mean2.ensures in
+returns c = let x = c.mean.ensures in
+    let y = c.mean-2.ensures in
     λ i. record { x = x i; y = y i }
 
-pub centroid-of-spec : {M : Type 1} → statement M
-centroid-of-spec = tie.close (tie.spec mean-requires mean-requires-2 returns)
+pub centroid_of_spec : {M : Type 1} → statement M
+centroid_of_spec = tie.close (tie.spec mean-requires mean-requires-2 returns)

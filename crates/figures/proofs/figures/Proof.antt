@@ -9,60 +9,60 @@ use Rattle.figures.proofs.Figuring.{figures_declined, stands, summable, outlines
 use Rattle.figures.proofs.figures.Statement.{statement}
 use Rattle.figures.proofs.figures.Tie as tie
 
-hull-requires : tie.Need-hull-requires
+hull-requires : tie.Need-hull-found-requires
 hull-requires c κs = search rules
 
-same_length : tie.Need-same-length
+same_length : tie.Need-shape_of-ordered-then-number-ne0
 same_length c = search rules
 
-same-length-2 : tie.Need-same-length-2
+same-length-2 : tie.Need-shape_of-corners-then-number-ne0
 same-length-2 c = search rules
 
-returns : tie.Need-returns
-returns c = figures_declined c.before.before.before.hull.ensures c.if1.true
+returns : tie.Need-returns-then-number-ne0
+returns c = figures_declined c.hull-found.ensures c.if-number-ne0.true
 
-same-length-3 : tie.Need-same-length-3
+same-length-3 : tie.Need-shape_of-ordered-then-n-eq0
 same-length-3 c = search rules
 
-same-length-4 : tie.Need-same-length-4
+same-length-4 : tie.Need-shape_of-corners-then-n-eq0
 same-length-4 c = search rules
 
-returns-2 : tie.Need-returns-2
-returns-2 c = figures_none c.before.before.before.before.hull.ensures c.before.if1.false c.if2.true
+returns-2 : tie.Need-returns-then-n-eq0
+returns-2 c = figures_none c.hull-found.ensures c.if-number-ne0.false c.if-n-eq0.true
 
-centroid-of-requires : tie.Need-centroid-of-requires
-centroid-of-requires c κs = summable c.before.before.before.before.hull.ensures c.before.if1.false c.if2.false
+centroid-of-requires : tie.Need-centroid_of-requires
+centroid-of-requires c κs = summable c.hull-found.ensures c.if-number-ne0.false c.if-n-eq0.false
 
 -- the list is accepted: what stands in the rooms
-standing : (c : tie.Else1) → let h = c.before.before.before.hull in
-    Stands (points c.before.before.before.before.before.before.args.list.now) h.result.points h.result.corners h.new.1.0 h.new.1.1.0
-standing c = stands c.before.before.before.hull.ensures c.if1.false
+standing : (c : tie.Else-number-ne0) → let h = c.hull-found in
+    Stands (points c.args.list.now) h.result.points h.result.corners h.new.ordered h.new.corners
+standing c = stands c.hull-found.ensures c.if-number-ne0.false
 
-mul-solidity-of : tie.Need-overflow-mul-solidity-of
-mul-solidity-of c = omega (arith, (standing c.before.before).corners_long, c.before.before.before.before.before.hull.auto)
+mul-solidity-of : tie.Need-overflow_mul-count
+mul-solidity-of c = omega (arith, (standing c.before.before).corners_long, c.hull-found.auto)
 
-slice-reshare-prefix-solidity-of : tie.Need-slice-reshare-prefix-solidity-of
+slice-reshare-prefix-solidity-of : tie.Need-slice_bounds-solidity_of-end
 slice-reshare-prefix-solidity-of c = (standing c.before.before).corners_long
 
-slice-aggregate-solidity-of : tie.Need-slice-aggregate-solidity-of
-slice-aggregate-solidity-of c = sym (length-take-le _ _ (standing c.before.before.before).corners_long)
+slice-aggregate-solidity-of : tie.Need-slice_bounds-solidity_of-end-2
+slice-aggregate-solidity-of c = sym (length-take-le _ _ (standing c.before.before).corners_long)
 
-solidity-of-requires : tie.Need-solidity-of-requires
-solidity-of-requires c κs = let h = c.before.before.before.before.before.before in
-    let e = c.before.before.before.if1.false in
-    (summable h.hull.ensures e c.before.before.if2.false, outlines h.hull.ensures e)
+solidity-of-requires : tie.Need-solidity_of-requires
+solidity-of-requires c κs = let h = c in
+    let e = c.if-number-ne0.false in
+    (summable h.hull-found.ensures e c.if-n-eq0.false, outlines h.hull-found.ensures e)
 
-same-length-5 : tie.Need-same-length-5
+same-length-5 : tie.Need-shape_of-ordered
 same-length-5 c = search rules
 
-same-length-6 : tie.Need-same-length-6
+same-length-6 : tie.Need-shape_of-corners
 same-length-6 c = search rules
 
-returns-3 : tie.Need-returns-3
-returns-3 c = figures_given c.before.before.before.before.before.before.before.hull.ensures c.before.before.before.before.if1.false c.before.before.before.if2.false c.before.before.centroid-of.ensures c.solidity-of.ensures
+returns-3 : tie.Need-returns
+returns-3 c = figures_given c.hull-found.ensures c.if-number-ne0.false c.if-n-eq0.false c.centroid_of.ensures c.solidity_of.ensures
 
-pub figures-spec : {M : Type 1} → statement M
-figures-spec =
+pub figures_spec : {M : Type 1} → statement M
+figures_spec =
     tie.close
     (tie.spec
     hull-requires

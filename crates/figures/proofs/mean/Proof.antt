@@ -16,7 +16,7 @@ quotient-requires c κs = let a = c.before in
 
 returns : tie.Need-returns
 returns c = c.quotient.ensures
-    ∙ read_rounded c.before.sum.result (record { sfits = c.before.sum.type-inv }) c.before.sum.ensures (sym (points_length c.before.before.args.list.now))
+    ∙ read_rounded c.sum.result (record { sfits = c.sum.type_inv }) c.sum.ensures (sym (points_length c.args.list.now))
 
-pub mean-spec : {M : Type 1} → statement M
-mean-spec = tie.close (tie.spec sum-requires quotient-requires returns)
+pub mean_spec : {M : Type 1} → statement M
+mean_spec = tie.close (tie.spec sum-requires quotient-requires returns)

@@ -5,15 +5,15 @@ use Rattle.figures.proofs.quotient.Tie as tie
 use lib.IntN.{pos}
 use Rattle.figures.proofs.Rounding.{cast_exact, read_rounds_once}
 
-int-to-float-result : tie.Need-int-to-float-result
+int-to-float-result : tie.Need-int_to_float-result
 int-to-float-result c = search rules
 
-int-to-float-result-2 : tie.Need-int-to-float-result-2
-int-to-float-result-2 c = cast_exact (pos c.before.before.args.b) c.before.before.requires.1
+int-to-float-result-2 : tie.Need-int_to_float-result-2
+int-to-float-result-2 c = cast_exact (pos c.args.b) c.requires.1
 
 returns : tie.Need-returns
 returns c = let s = c.before.before in
     read_rounds_once s.args.a s.args.b s.ranges.a s.requires.0 s.requires.1
 
-pub quotient-spec : {M : Type 1} → statement M
-quotient-spec = tie.close (tie.spec int-to-float-result int-to-float-result-2 returns)
+pub quotient_spec : {M : Type 1} → statement M
+quotient_spec = tie.close (tie.spec int-to-float-result int-to-float-result-2 returns)

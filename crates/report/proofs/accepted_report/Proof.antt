@@ -12,21 +12,21 @@ use Rattle.packed.proofs.Tests.{read_back}
 use Rattle.report.specs.Report.{no}
 use Rattle.report.specs.Answer.{reported}
 
-returns : tie.Need-returns
-returns c = inl (c.if1.true, refl)
+returns : tie.Need-returns-then-count-eq0
+returns c = inl (c.if-count-eq0.true, refl)
 
-shared-slice-copy-out-t7 : tie.Need-shared-slice-copy-out-t7
+shared-slice-copy-out-t7 : tie.Need-bounds-missing-0
 shared-slice-copy-out-t7 c = search rules
 
-shared-slice-copy-out-t9 : tie.Need-shared-slice-copy-out-t9
+shared-slice-copy-out-t9 : tie.Need-bounds-missing-1
 shared-slice-copy-out-t9 c = search rules
 
-returns-2 : tie.Need-returns-2
-returns-2 c = let a = c.before.before.before.args in
-    let e = read_back (get_or a.missing.now 0 (pos 0)) (record { sfits = c.before.t7.given }) in
-    let f = read_back (get_or a.missing.now 1 (pos 0)) (record { sfits = c.t9.given }) in
-    inr (omega (arith, c.before.before.if1.false), λ i. reported a.points a.corners a.count no (record { x = e i; y = f i }))
+returns-2 : tie.Need-returns
+returns-2 c = let a = c.args in
+    let e = read_back (get_or a.missing.now 0 (pos 0)) (record { sfits = c.result-1.given }) in
+    let f = read_back (get_or a.missing.now 1 (pos 0)) (record { sfits = c.result-2-1.given }) in
+    inr (omega (arith, c.if-count-eq0.false), λ i. reported a.points a.corners a.count no (record { x = e i; y = f i }))
 
-pub accepted-report-spec : {M : Type 1} → statement M
-accepted-report-spec =
+pub accepted_report_spec : {M : Type 1} → statement M
+accepted_report_spec =
     tie.close (tie.spec returns shared-slice-copy-out-t7 shared-slice-copy-out-t9 returns-2)

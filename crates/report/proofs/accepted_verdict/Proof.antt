@@ -16,14 +16,14 @@ column-requires c κs = search rules
 row-requires : tie.Need-row-requires
 row-requires c κs = omega arith
 
-returns : tie.Need-returns
-returns c = let a = c.before.before.before.args in
-    let e = read_back c.before.column.result (record { sfits = c.before.column.type-inv }) ∙ c.before.column.ensures in
-    let f = read_back c.row.result (record { sfits = c.row.type-inv }) ∙ c.row.ensures in
-    inl (c.before.before.if1.true, λ i. judged a.points a.corners no (record { x = e i; y = f i }))
+returns : tie.Need-returns-then-first-lt-NONE
+returns c = let a = c.args in
+    let e = read_back c.column.result (record { sfits = c.column.type_inv }) ∙ c.column.ensures in
+    let f = read_back c.row.result (record { sfits = c.row.type_inv }) ∙ c.row.ensures in
+    inl (c.if-first-lt-NONE.true, λ i. judged a.points a.corners no (record { x = e i; y = f i }))
 
-returns-2 : tie.Need-returns-2
-returns-2 c = inr (c.if1.false, refl)
+returns-2 : tie.Need-returns
+returns-2 c = inr (c.if-first-lt-NONE.false, refl)
 
-pub accepted-verdict-spec : {M : Type 1} → statement M
-accepted-verdict-spec = tie.close (tie.spec column-requires row-requires returns returns-2)
+pub accepted_verdict_spec : {M : Type 1} → statement M
+accepted_verdict_spec = tie.close (tie.spec column-requires row-requires returns returns-2)

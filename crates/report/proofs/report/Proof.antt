@@ -12,66 +12,66 @@ use Rattle.report.proofs.Reporting.{report_declined, report_stands, report_takes
 use Rattle.report.proofs.report.Statement.{statement}
 use Rattle.report.proofs.report.Tie as tie
 
-within-requires : tie.Need-within-requires
+within-requires : tie.Need-within-found-requires
 within-requires c κs = search rules
 
-declined-report-requires : tie.Need-declined-report-requires
+declined-report-requires : tie.Need-declined_report-requires
 declined-report-requires c κs = search rules
 
-same_length : tie.Need-same-length
+same_length : tie.Need-shape_of-ordered-then-number-ne0
 same_length c = search rules
 
-same-length-2 : tie.Need-same-length-2
+same-length-2 : tie.Need-shape_of-corners-then-number-ne0
 same-length-2 c = search rules
 
-returns : tie.Need-returns
-returns c = report_declined _ _ _ _ c.before.before.before.before.within.ensures c.before.if1.true _ c.declined-report.ensures
+returns : tie.Need-returns-then-number-ne0
+returns c = report_declined _ _ _ _ c.within-found.ensures c.if-number-ne0.true _ c.declined_report.ensures
 
 -- the list is accepted: what stands in the rooms
-abbrev list_of : tie.Else1 → List ℤ
-list_of c = c.before.before.before.before.before.before.args.list.now
+abbrev list_of : tie.Else-number-ne0 → List ℤ
+list_of c = c.args.list.now
 
-stands : (c : tie.Else1) → let h = c.before.before.before.within in Stands (points (list_of c)) h.result.points h.result.corners h.new.1.0 h.new.1.1.0
-stands c = report_stands (list_of c) _ _ c.before.before.before.before.before.before.args.missing.now c.before.before.before.within.ensures c.if1.false
+stands : (c : tie.Else-number-ne0) → let h = c.within-found in Stands (points (list_of c)) h.result.points h.result.corners h.new.ordered h.new.corners
+stands c = report_stands (list_of c) _ _ c.args.missing.now c.within-found.ensures c.if-number-ne0.false
 
-mul-write : tie.Need-overflow-mul-write
-mul-write c = omega (arith, (stands c).corners_long, c.before.before.before.within.auto)
+mul-write : tie.Need-overflow_mul-count
+mul-write c = omega (arith, (stands c).corners_long, c.within-found.auto)
 
-slice-reshare-prefix-write : tie.Need-slice-reshare-prefix-write
+slice-reshare-prefix-write : tie.Need-slice_bounds-write-end
 slice-reshare-prefix-write c = (stands (c)).corners_long
 
-slice-aggregate-write : tie.Need-slice-aggregate-write
-slice-aggregate-write c = sym (length-take-le _ _ (stands c.before).corners_long)
+slice-aggregate-write : tie.Need-slice_bounds-write-end-2
+slice-aggregate-write c = sym (length-take-le _ _ (stands c).corners_long)
 
-mul-write-2 : tie.Need-overflow-mul-write-2
-mul-write-2 c = omega (arith, (stands c.before).few)
+mul-write-2 : tie.Need-overflow_mul-n
+mul-write-2 c = omega (arith, (stands c).few)
 
-slice-reshare-prefix-write-2 : tie.Need-slice-reshare-prefix-write-2
-slice-reshare-prefix-write-2 c = (stands c.before).ordered_long
+slice-reshare-prefix-write-2 : tie.Need-slice_bounds-write-end-3
+slice-reshare-prefix-write-2 c = (stands c).ordered_long
 
-slice-aggregate-write-2 : tie.Need-slice-aggregate-write-2
-slice-aggregate-write-2 c = sym (length-take-le _ _ (stands c.before.before).ordered_long)
+slice-aggregate-write-2 : tie.Need-slice_bounds-write-end-4
+slice-aggregate-write-2 c = sym (length-take-le _ _ (stands c).ordered_long)
 
-write-requires : tie.Need-write-requires
-write-requires c κs = (walked _ _ _ _ _ (stands c.before.before.before), report_takes (list_of c.before.before.before) _ _ c.before.before.before.before.before.before.before.before.before.args.missing.now c.before.before.before.before.before.before.within.ensures c.before.before.before.if1.false)
+write-requires : tie.Need-write-written-requires
+write-requires c κs = (walked _ _ _ _ _ (stands c.before), report_takes (list_of c.before) _ _ c.args.missing.now c.within-found.ensures c.if-number-ne0.false)
 
-accepted-report-requires : tie.Need-accepted-report-requires
-accepted-report-requires c κs = report_front (list_of c.before.before.before.before.before.before) _ _ c.before.before.before.before.before.before.before.before.before.before.before.before.args.missing.now c.before.before.before.before.before.before.before.before.before.within.ensures c.before.before.before.before.before.before.if1.false _ _ c.before.before.write.ensures
+accepted-report-requires : tie.Need-accepted_report-requires
+accepted-report-requires c κs = report_front (list_of c.before.before.before) _ _ c.args.missing.now c.within-found.ensures c.if-number-ne0.false _ _ c.write-written.ensures
 
-same-length-3 : tie.Need-same-length-3
+same-length-3 : tie.Need-shape_of-ordered
 same-length-3 c = search rules
 
-same-length-4 : tie.Need-same-length-4
+same-length-4 : tie.Need-shape_of-corners
 same-length-4 c = search rules
 
-same-length-5 : tie.Need-same-length-5
+same-length-5 : tie.Need-shape_of-missing
 same-length-5 c = search rules
 
-returns-2 : tie.Need-returns-2
-returns-2 c = report_done (list_of c.before.before.before.before.before.before.before) _ _ c.before.before.before.before.before.before.before.before.before.before.before.before.before.args.missing.now c.before.before.before.before.before.before.before.before.before.before.within.ensures c.before.before.before.before.before.before.before.if1.false _ _ c.before.before.before.write.ensures _ c.accepted-report.ensures
+returns-2 : tie.Need-returns
+returns-2 c = report_done (list_of c.before.before.before.before) _ _ c.args.missing.now c.within-found.ensures c.if-number-ne0.false _ _ c.write-written.ensures _ c.accepted_report.ensures
 
-pub report-spec : {M : Type 1} → statement M
-report-spec =
+pub report_spec : {M : Type 1} → statement M
+report_spec =
     tie.close
     (tie.spec
     within-requires
