@@ -17,80 +17,80 @@ use Rattle.rebuild.proofs.refusal_of_lists.Tie as tie
 declined-requires : tie.Need-declined-requires
 declined-requires c κs = search rules
 
-returns : tie.Need-returns
-returns c = let a = c.before.before.args in
-    looks_as c.declined.ensures (odd_list a.corners.now a.missing.now (inl c.before.if1.true))
+returns : tie.Need-returns-then-corners-eq1
+returns c = let a = c.args in
+    looks_as c.declined.ensures (odd_list a.corners.now a.missing.now (inl c.if-corners-eq1.true))
 
-declined-requires-2 : tie.Need-declined-requires-2
+declined-requires-2 : tie.Need-declined-requires-then-missing-eq1
 declined-requires-2 c κs = search rules
 
-returns-2 : tie.Need-returns-2
-returns-2 c = let a = c.before.before.before.args in
-    looks_as c.declined2.ensures (odd_list a.corners.now a.missing.now (inr c.before.if2.true))
+returns-2 : tie.Need-returns-then-missing-eq1
+returns-2 c = let a = c.args in
+    looks_as c.declined-then-missing-eq1.ensures (odd_list a.corners.now a.missing.now (inr c.if-missing-eq1.true))
 
-declined-requires-3 : tie.Need-declined-requires-3
+declined-requires-3 : tie.Need-declined-requires-then-n-gt-MOST
 declined-requires-3 c κs = search rules
 
 -- past the first tests: both lists are even
-abbrev corners-of : tie.Else2 → List ℤ
-corners-of c = c.before.before.args.corners.now
+abbrev corners-of : tie.Else-missing-eq1 → List ℤ
+corners-of c = c.args.corners.now
 
-abbrev missing-of : tie.Else2 → List ℤ
-missing-of c = c.before.before.args.missing.now
+abbrev missing-of : tie.Else-missing-eq1 → List ℤ
+missing-of c = c.args.missing.now
 
-even : (c : tie.Else2) → Odd (corners-of c) ⊎ Odd (missing-of c) → ⊥
-even c h = either h (λ o. c.before.if1.false o) (λ o. c.if2.false o)
+even : (c : tie.Else-missing-eq1) → Odd (corners-of c) ⊎ Odd (missing-of c) → ⊥
+even c h = either h (λ o. c.if-corners-eq1.false o) (λ o. c.if-missing-eq1.false o)
 
-few : (c : tie.Else3) → length (points (corners-of c.before)) ≤ most
-few c = omega (arith, points_length (corners-of c.before), c.if3.false)
+few : (c : tie.Else-n-gt-MOST) → length (points (corners-of c.before)) ≤ most
+few c = omega (arith, points_length (corners-of c.before), c.if-n-gt-MOST.false)
 
-returns-3 : tie.Need-returns-3
+returns-3 : tie.Need-returns-then-n-gt-MOST
 returns-3 c = let e = c.before.before in
-    looks_as c.declined3.ensures
-    (many_corners (corners-of e) (missing-of e) (even e) (omega (arith, points_length (corners-of e), c.before.if3.true)))
+    looks_as c.declined-then-n-gt-MOST.ensures
+    (many_corners (corners-of e) (missing-of e) (even e) (omega (arith, points_length (corners-of e), c.if-n-gt-MOST.true)))
 
-first-outside-requires : tie.Need-first-outside-requires
+first-outside-requires : tie.Need-first_outside-corner-requires
 first-outside-requires c κs = search rules
 
-declined-requires-4 : tie.Need-declined-requires-4
+declined-requires-4 : tie.Need-declined-requires-then-corner-n
 declined-requires-4 c κs = search rules
 
-returns-4 : tie.Need-returns-4
+returns-4 : tie.Need-returns-then-corner-n
 returns-4 c = let o = c.before.before in
     let e = o.before.before in
-    looks_as c.declined4.ensures
-    (corner_outside (corners-of e) (missing-of e) (even e) (few o.before) _ o.first-outside.ensures
-    (omega (arith, points_length (corners-of e), c.before.if4.true)))
+    looks_as c.declined-then-corner-n.ensures
+    (corner_outside (corners-of e) (missing-of e) (even e) (few o.before) _ o.first_outside-corner.ensures
+    (omega (arith, points_length (corners-of e), c.if-corner-n.true)))
 
-first-outside-requires-2 : tie.Need-first-outside-requires-2
+first-outside-requires-2 : tie.Need-first_outside-point-requires
 first-outside-requires-2 c κs = search rules
 
-declined-requires-5 : tie.Need-declined-requires-5
+declined-requires-5 : tie.Need-declined-requires-then-point-missing
 declined-requires-5 c κs = search rules
 
 -- past the corners: all are in range
-in_range : (c : tie.Else4) → let e = c.before.before.before in
-    length (points (corners-of e)) ≤ c.before.first-outside.result
+in_range : (c : tie.Else-corner-n) → let e = c.before.before.before in
+    length (points (corners-of e)) ≤ c.first_outside-corner.result
 in_range c = let e = c.before.before.before in
-    omega (arith, points_length (corners-of e), c.if4.false)
+    omega (arith, points_length (corners-of e), c.if-corner-n.false)
 
-returns-5 : tie.Need-returns-5
+returns-5 : tie.Need-returns-then-point-missing
 returns-5 c = let o = c.before.before in
     let p = o.before.before in
     let e = p.before.before in
-    looks_as c.declined5.ensures
-    (point_outside (corners-of e) (missing-of e) (even e) (few p.before) _ p.first-outside.ensures (in_range o.before) _ o.first-outside2.ensures
-    (omega (arith, points_length (missing-of e), c.before.if5.true)))
+    looks_as c.declined-then-point-missing.ensures
+    (point_outside (corners-of e) (missing-of e) (even e) (few p.before) _ p.first_outside-corner.ensures (in_range o.before) _ o.first_outside-point.ensures
+    (omega (arith, points_length (missing-of e), c.if-point-missing.true)))
 
-returns-6 : tie.Need-returns-6
+returns-6 : tie.Need-returns
 returns-6 c = let o = c.before in
     let p = o.before.before in
     let e = p.before.before in
-    lists_pass (corners-of e) (missing-of e) (even e) (few p.before) _ p.first-outside.ensures (in_range o.before) _ o.first-outside2.ensures
-    (omega (arith, points_length (missing-of e), c.if5.false))
+    lists_pass (corners-of e) (missing-of e) (even e) (few p.before) _ p.first_outside-corner.ensures (in_range o.before) _ o.first_outside-point.ensures
+    (omega (arith, points_length (missing-of e), c.if-point-missing.false))
 
-pub refusal-of-lists-spec : {M : Type 1} → statement M
-refusal-of-lists-spec =
+pub refusal_of_lists_spec : {M : Type 1} → statement M
+refusal_of_lists_spec =
     tie.close
     (tie.spec
     declined-requires
