@@ -1,5 +1,5 @@
 // The face: the calls of the library, and nothing else. A crate over it names `grain` alone; for other languages the same calls stand in
-// `exports`, one for one.
+// `grain_c`, one for one.
 pub use bitmap::{Picture, read as read_picture};
 pub use csv_text::{refused as write_refused, write as write_report};
 pub use figures::{Centroid, Figured, figures};
@@ -9,5 +9,3 @@ pub use picture::respond;
 pub use rebuild::{Rebuilt, rebuild};
 pub use report::{Judged, Reported, report, verdict};
 pub use rows::{Ends, row, row_ends};
-
-mod exports;

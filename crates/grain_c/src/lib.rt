@@ -9,7 +9,7 @@ ghost use Rattle.bitmap.specs.Picture.{PicturePromise};
 ghost use Rattle.csv_text.specs.Text.{report_text, refused_text};
 ghost use Rattle.csv_text.specs.Written.{WritePromise};
 ghost use Rattle.picture.specs.Response.{ResponsePromise};
-ghost use Rattle.grain.specs.Block.{FiguresBlockPromise};
+ghost use Rattle.grain_c.specs.Block.{FiguresBlockPromise};
 
 use bitmap::Picture;
 use figures::Figured;

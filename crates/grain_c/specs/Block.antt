@@ -6,7 +6,7 @@ use Rattle.std.specs.Float.Ieee.{of_bits}
 use Rattle.figures.specs.declared.Figured.{Figured}
 use Rattle.figures.specs.declared.Figured.TheVariants.{Refused, None, Given}
 use Rattle.figures.specs.Figures.{FiguresPromise}
-use Rattle.grain.specs.declared.exports.Figures.{Figures}
+use Rattle.grain_c.specs.declared.Figures.{Figures}
 
 -- +0.0, whose bits are all 0: for a figure that is not given
 abbrev pub zero : Float

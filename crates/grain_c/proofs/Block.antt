@@ -5,8 +5,8 @@ use lib.IntN.{ℤ}
 use Rattle.figures.specs.declared.Figured.{Figured}
 use Rattle.figures.specs.Figures.{FiguresPromise}
 use Rattle.figures.proofs.Promised.{figures_pinned}
-use Rattle.grain.specs.declared.exports.Figures.{Figures}
-use Rattle.grain.specs.Block.{block_of, FiguresBlockPromise}
+use Rattle.grain_c.specs.declared.Figures.{Figures}
+use Rattle.grain_c.specs.Block.{block_of, FiguresBlockPromise}
 
 pub block_told : (list ordered corners ordered' corners' : List ℤ) (answer told : Figured) → answer ≡ told
     → FiguresPromise list ordered corners answer ordered' corners' → FiguresBlockPromise list ordered corners (block_of told) ordered' corners'
