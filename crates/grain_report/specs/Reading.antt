@@ -9,10 +9,10 @@ use Rattle.grain_report.specs.declared.Input.TheVariants as inputs
 abbrev pub Hands : List ℕ → Got → Type 0
 Hands free (gets.Bytes count) = (0 < count) × (count ≤ length free)
 Hands free gets.End = Unit {0}
-Hands free gets.Error = Unit {0}
+Hands free (gets.Error e) = Unit {0}
 
 -- the bytes read stand at the front of the buffer; reading stops before the input ends only where the buffer is full
 abbrev pub Reads : List ℕ → Input → Type 0
 Reads buffer (inputs.Whole count) = count ≤ length buffer
 Reads buffer (inputs.Full count) = count ≡ length buffer
-Reads buffer inputs.Error = Unit {0}
+Reads buffer (inputs.Error e) = Unit {0}
