@@ -5,5 +5,6 @@ pub mod Quote
 pub mod Order
 pub mod Linear
 pub mod Absolute
+pub mod Differences
 pub mod Natural
 pub mod Whole

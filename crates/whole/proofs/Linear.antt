@@ -144,9 +144,11 @@ nonnegative_factor {a} {b} h k = by_order (le_or_lt (pos zero) b)
 pub positive_factor : {a b : ℤ} → Positive (a *ℤ b) → Positive a → Positive b
 positive_factor {a} {b} h k = by_order (le_or_lt b (pos zero))
   where
+    weakened : pos zero ≤ᶻ a
+    weakened = linear≤ (a ∷ []) (gap< k) (search quote depth 20) tt
+
     by_order : (b ≤ᶻ pos zero) ⊎ (pos zero <ᶻ b) → Positive b
-    by_order (inl l) =
-        linear⊥ (a ∷ b ∷ []) (gap< h ⊞ gap≤ l ⊠ gap≤ (le_of_lt k)) (search quote depth 20) tt
+    by_order (inl l) = linear⊥ (a ∷ b ∷ []) (gap< h ⊞ gap≤ l ⊠ gap≤ weakened) (search quote depth 20) tt
     by_order (inr l) = l
 
 pub zero_factor : {a b : ℤ} → a *ℤ b ≡ pos zero → Positive a → b ≡ pos zero

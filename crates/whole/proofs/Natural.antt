@@ -8,6 +8,7 @@ use lib.Dec.{leb→le, le→leb, ltb→lt, lt→ltb}
 use lib.IntN.{ℤ, pos, negsuc, neg_ℤ, ◌+ℤ◌, ◌*ℤ◌, ◌-ℤ◌, +ℤ_idl, +ℤ_idr}
 use Rattle.whole.proofs.Polynomial.{Expression, variable, constant, ◌⊕◌, ◌⊗◌, ⊝, value, at}
 use Rattle.whole.proofs.Quote.{Is, expression, quoted, ring, quote}
+use Rattle.whole.proofs.Differences.{sum, product, negation}
 use Rattle.whole.proofs.Order.{◌≤ᶻ◌, ◌<ᶻ◌, gap≤, gap<}
 use Rattle.whole.proofs.Linear.{linear≤, linear<, ◌⊞◌, ◌⋆≡◌, antisymmetric, le_of_equal}
 
@@ -39,15 +40,6 @@ abbrev mutual
 split : (z : ℤ) → z ≡ pos (over z) -ℤ pos (under z)
 split (pos n) = sym (+ℤ_idr (pos n))
 split (negsuc n) = sym (+ℤ_idl (negsuc n))
-
-sum : (x y z w : ℤ) → (x -ℤ y) +ℤ (z -ℤ w) ≡ (x +ℤ z) -ℤ (y +ℤ w)
-sum x y z w = ring (x ∷ y ∷ z ∷ w ∷ []) (search quote depth 20) tt
-
-product : (x y z w : ℤ) → (x -ℤ y) *ℤ (z -ℤ w) ≡ (x *ℤ z +ℤ y *ℤ w) -ℤ (x *ℤ w +ℤ y *ℤ z)
-product x y z w = ring (x ∷ y ∷ z ∷ w ∷ []) (search quote depth 20) tt
-
-negation : (x y : ℤ) → neg_ℤ (x -ℤ y) ≡ y -ℤ x
-negation x y = ring (x ∷ y ∷ []) (search quote depth 20) tt
 
 module _ (ρ : List ℤ) where
   parts : (e : Expression) → value ρ e ≡ pos (over_of ρ e) -ℤ pos (under_of ρ e)
