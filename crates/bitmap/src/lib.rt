@@ -1,4 +1,6 @@
 // Plain bitmaps: the bytes of a picture, checked, and its black pixels as points.
+#![tactic(auto)]
+
 ghost use Rattle.std.specs.Prelude.{◌≡◌};
 ghost use Rattle.bitmap.specs.Picture.{refused as refused_of, begins_p1, answer_of, PicturePromise};
 

@@ -1,4 +1,6 @@
 // The black pixels of a plain bitmap with no fault, as points.
+#![tactic(auto)]
+
 ghost use Rattle.std.specs.Prelude.{◌≡◌, ◌≤◌};
 ghost use Rattle.lattice.specs.Room.{holding};
 ghost use Rattle.netpbm.specs.Raster.{black_in};

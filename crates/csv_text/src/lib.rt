@@ -1,4 +1,6 @@
 // CSV: the text of a report and of a refusal.
+#![tactic(auto)]
+
 ghost use Rattle.std.specs.Prelude.{◌≡◌, cond, [], ◌∷◌, suc, ◌≤◌, length, leb, nat_abs};
 ghost use Rattle.lattice.specs.Point.{points as points_of};
 ghost use Rattle.csv_text.specs.Text.{natural as natural_of, whole as whole_of, line, point_lines, report_text, refused_text};

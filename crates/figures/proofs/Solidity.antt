@@ -2,7 +2,7 @@
 -- set is convex; and it is what the code divides. Assumes nothing.
 use mathlib.Core.Path.{◌≡◌, sym, ◌∙◌, ap, subst}
 use mathlib.Core.Logic.{◌↔◌}
-use mathlib.Core.List.{List, map}
+use mathlib.Core.List.{List}
 use Prim.Native.Nat.{ℕ, ◌+◌, ◌≤◌, ◌<◌}
 use native.Mathlib.Omega.{arith}
 use lib.Dec.{T}
@@ -18,7 +18,6 @@ use Rattle.lattice.proofs.Frame.{hull_in_range}
 use Rattle.lattice.proofs.SameMembers.{lists_unique, lists_same}
 use Rattle.lattice.proofs.CornerLists.{corner_list_of_some, hull_of_corners}
 use Rattle.lattice.proofs.MissingLists.{missing_list_exists, missing_count_distinct, convex_exactly}
-use Rattle.packed.specs.Packed.{unpacked}
 use Rattle.packed.proofs.KeyLaws.{lists_small}
 use Rattle.packed.specs.Corners.{Outline, CountOf}
 use Rattle.figures.specs.Quotient.{exact, rounded}

@@ -1,4 +1,6 @@
 // Figures: the centroid of a list of points, and its solidity.
+#![tactic(auto)]
+
 ghost use Rattle.std.specs.Prelude.{◌≡◌, ◌<◌, ◌≤◌, length};
 ghost use Rattle.lattice.specs.Point.{points};
 ghost use Rattle.figures.specs.Quotient.{exact, rounded};

@@ -1,5 +1,7 @@
 // The face: the calls of the library, and nothing else. A crate over it names `grain` alone; for other languages the same calls stand in
 // `grain_c`, one for one.
+#![tactic(auto)]
+
 pub use bitmap::{Picture, read as read_picture};
 pub use csv_text::{refused as write_refused, write as write_report};
 pub use figures::{Centroid, Figured, figures};

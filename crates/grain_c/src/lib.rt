@@ -1,5 +1,7 @@
 // The calls for other languages: include/grain.h declares them for C. Each list is a pointer and a length, each answer a struct as C lays
 // it out. Each call promises what the call of the same name promises, and asks for nothing.
+#![tactic(auto)]
+
 ghost use Rattle.order.specs.Order.{OrderPromise};
 ghost use Rattle.rows.specs.Row.{RowEndsPromise};
 ghost use Rattle.hull.specs.Hull.{HullPromise};

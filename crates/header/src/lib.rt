@@ -1,4 +1,6 @@
 // The header of a bitmap: width and height, and where the pixels begin.
+#![tactic(auto)]
+
 ghost use Rattle.std.specs.Prelude.{◌≡◌, true, ◌+◌, ◌*◌, ◌-◌, ◌≤◌, suc, min, length, drop};
 ghost use Rattle.netpbm.specs.Space.{white_space};
 ghost use Rattle.header.specs.Bytes.{read_in, placed_at_read};

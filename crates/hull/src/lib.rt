@@ -1,4 +1,6 @@
 // Hull: the points of a list in row order, and the corners of its hull. The one home of the working space of all calls over a grain.
+#![tactic(auto)]
+
 ghost use Rattle.std.specs.Prelude.{◌≡◌, ◌+◌, ◌≤◌};
 ghost use Rattle.lattice.specs.Point.{most};
 ghost use Rattle.packed.specs.Packed.{Tells};

@@ -1,5 +1,7 @@
 // The missing points of Rebuild: the first that does not follow the one before (refusal 9), and the first that is outside the corners' hull or is
 // a corner (refusal 10).
+#![tactic(auto)]
+
 ghost use Rattle.std.specs.Prelude.{◌≡◌, true, ◌/◌, ◌<◌, length};
 ghost use Rattle.lattice.specs.Point.{InRange, points, point, In, All, Pairs, Before};
 ghost use Rattle.lattice.specs.Refusal.{Misplaced};

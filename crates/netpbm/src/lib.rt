@@ -1,4 +1,6 @@
 // What the parts of a bitmap share: white space, how a count of pixels is told, and how a pixel's point is written.
+#![tactic(auto)]
+
 ghost use Rattle.std.specs.Prelude.{◌≡◌, ◌+◌, ◌*◌, ◌^◌, ◌<◌, length, set, pos};
 ghost use Rattle.netpbm.specs.Space.{white_space};
 

@@ -1,4 +1,6 @@
 // Whether a list of numbers is a corner list: refusal 8.
+#![tactic(auto)]
+
 ghost use Rattle.std.specs.Prelude.{◌<◌};
 ghost use Rattle.lattice.specs.Point.{InRange, points, All};
 ghost use Rattle.lattice.specs.Hull.{CornerList};

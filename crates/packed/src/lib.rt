@@ -1,4 +1,6 @@
 // Points as the code holds them, each one number below 2^28 in row order, and the turn of three of them.
+#![tactic(auto)]
+
 ghost use Rattle.std.specs.Prelude.{◌≡◌, ◌/◌, ◌%◌, ◌<◌, pos, length, get_or, ◌≤ℤ◌};
 ghost use Rattle.std.specs.Int.Signed.{lt_z};
 ghost use Rattle.lattice.specs.Point.{least, greatest, InRange, points, point};

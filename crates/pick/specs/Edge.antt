@@ -1,6 +1,6 @@
 -- What the edge from one packed corner to another is worth in Pick's formula, in natural numbers: what it gains and what it loses. Assumes nothing.
 use Rattle.std.specs.Prelude.{◌≡◌, ℕ, ◌+◌, ◌-◌, ◌*◌, ◌/◌, ◌%◌, ◌<◌}
-use Rattle.packed.specs.Packed.{side, cells}
+use Rattle.packed.specs.Packed.{side}
 use Rattle.pick.specs.declared.Edges.{Edges}
 use Rattle.pick.specs.Pick.{divisor}
 

@@ -1,4 +1,6 @@
 // How many lattice points a hull has, by Pick's formula: from the corners alone, no row is gone through.
+#![tactic(auto)]
+
 ghost use Rattle.std.specs.Prelude.{◌≡◌, ◌+◌, ◌-◌, ◌*◌, ◌/◌, ◌≤◌, ◌<◌};
 ghost use Rattle.lattice.specs.Point.{points};
 ghost use Rattle.lattice.specs.Hull.{InHull, Of};

@@ -1,4 +1,6 @@
 // The pixels of a plain bitmap: checked and counted, by parts up to the first fault, and there one by one.
+#![tactic(auto)]
+
 ghost use Rattle.std.specs.Prelude.{◌≡◌, true, ◌+◌, ◌^◌, ◌≤◌, ◌<◌, length};
 ghost use Rattle.netpbm.specs.Steps.{counted};
 ghost use Rattle.plain.specs.Plain.{plain_at};

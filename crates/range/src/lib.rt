@@ -1,4 +1,6 @@
 // A list of points before it is packed: is it in range, the first point that is not, is it in range and strictly in row order.
+#![tactic(auto)]
+
 ghost use Rattle.std.specs.Prelude.{◌≡◌, true};
 ghost use Rattle.lattice.specs.Point.{points, InRange, All, Pairs, Before};
 ghost use Rattle.packed.specs.Packed.{Tells};

@@ -1,4 +1,6 @@
 // Rebuild: the way back, from corners and missing points to the points.
+#![tactic(auto)]
+
 ghost use Rattle.std.specs.Prelude.{◌≡◌};
 ghost use Rattle.lattice.specs.Point.{points};
 ghost use Rattle.lattice.specs.Refusal.{accepted, rebuild_rows};

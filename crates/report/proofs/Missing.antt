@@ -5,8 +5,8 @@ use Prim.Native.Nat.{ℕ, ◌*◌, ◌/◌, ◌≤◌, ◌<◌}
 use native.Mathlib.Omega.{arith}
 use lib.ListN.{length, take}
 use lib.IntN.{ℤ}
-use Rattle.lattice.specs.Point.{Point, InRange, origin, points, In, Lists, Before}
-use Rattle.lattice.specs.Hull.{InHull, member, Of, Missing, MissingList}
+use Rattle.lattice.specs.Point.{Point, InRange, origin, points, In, Before}
+use Rattle.lattice.specs.Hull.{InHull, member, Of, Missing}
 use Rattle.lattice.proofs.Lists.{either, all_in, in_all}
 use Rattle.lattice.proofs.Places.{lt_or_le}
 use Rattle.lattice.proofs.CornerLists.{hull_of_corners}

@@ -7,14 +7,13 @@ use native.Mathlib.Omega.{arith}
 use lib.ListN.{length, get_or, take}
 use lib.IntN.{ℤ, pos}
 use Rattle.lattice.specs.Point.{Point, origin, points}
-use Rattle.lattice.specs.Hull.{Missing, MissingList}
+use Rattle.lattice.specs.Hull.{Missing}
 use Rattle.lattice.specs.Grains.{first_of}
-use Rattle.lattice.specs.Refusal.{Table, accepted, ◌when◌else◌, First, Gives, Whole}
+use Rattle.lattice.specs.Refusal.{Table, accepted, ◌when◌else◌, Gives, Whole}
 use Rattle.lattice.specs.Room.{holding}
 use Rattle.lattice.proofs.MissingLists.{missing_list_unique}
 use Rattle.lattice.proofs.Rooms.{holding_length}
 use Rattle.lattice.proofs.Tables.{other_later, both_accept, place_zero}
-use Rattle.packed.specs.Packed.{unpacked}
 use Rattle.hull.specs.declared.Hulled.{Hulled}
 use Rattle.hull.specs.Hull.{hull_rows, HullResult, HullPromise}
 use Rattle.hull.specs.Within.{MoreMissing, within_rows, WithinPromise}

@@ -1,4 +1,6 @@
 // Verdict: is a grain convex, and the first missing point if it is not. Report: all missing points. Both read on where Hull has written.
+#![tactic(auto)]
+
 ghost use Rattle.std.specs.Prelude.{◌≡◌, ◌*◌, ◌≤◌, length, pos};
 ghost use Rattle.report.specs.Report.{neither, VerdictPromise, ReportPromise};
 ghost use Rattle.report.specs.Answer.{JudgedBy, ReportedBy};

@@ -1,4 +1,6 @@
 // Row ends and Row: the points of one row of a list in row order.
+#![tactic(auto)]
+
 ghost use Rattle.std.specs.Prelude.{◌≤◌, length};
 ghost use Rattle.lattice.specs.Point.{points};
 ghost use Rattle.packed.specs.Packed.{Tells};

@@ -1,4 +1,6 @@
 // The corners of points in row order: a scan up the last and down the first points of the rows, on a stack of packed points.
+#![tactic(auto)]
+
 ghost use Rattle.std.specs.Prelude.{◌<◌, ◌≤◌, ◌*◌, length};
 ghost use Rattle.scan.specs.Scanning.{Pushable, Pushed, RowTo, RowFrom, first_of, last_of, Rising, Scannable, Climbed, Cornered};
 

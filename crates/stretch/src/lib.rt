@@ -1,5 +1,7 @@
 // Where a hull begins and ends in each row: where two of its edges cross the row. Both are followed from row to row by one addition each.
 // The corners are read where they stand, as numbers.
+#![tactic(auto)]
+
 ghost use Rattle.std.specs.Prelude.{◌≡◌, length, get_or, suc, ◌+◌, ◌*◌, ◌≤◌, ◌<◌};
 ghost use Rattle.packed.specs.Packed.{Tells, side};
 ghost use Rattle.packed.specs.Corners.{keys_of};

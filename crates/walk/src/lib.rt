@@ -1,4 +1,6 @@
 // The lattice points of a hull that a list in row order lacks, row by row: the first of them, all of them.
+#![tactic(auto)]
+
 ghost use Rattle.std.specs.Prelude.{◌≡◌, ◌<◌, ◌≤◌, ◌-◌, ◌*◌, length};
 ghost use Rattle.lattice.specs.Point.{InRange, points, point, All, Pairs, Before};
 ghost use Rattle.packed.specs.Packed.{Tells, side};

@@ -7,7 +7,7 @@ use native.Mathlib.Omega.{arith}
 use lib.Dec.{leb→le, le→leb, ltb→lt, lt→ltb}
 use lib.IntN.{ℤ, pos, negsuc, neg_ℤ, ◌+ℤ◌, ◌*ℤ◌, ◌-ℤ◌, +ℤ_idl, +ℤ_idr}
 use Rattle.whole.proofs.Polynomial.{Expression, variable, constant, ◌⊕◌, ◌⊗◌, ⊝, value, at}
-use Rattle.whole.proofs.Quote.{Is, expression, quoted, ring, quote}
+use Rattle.whole.proofs.Quote.{Is, expression, quoted, quote}
 use Rattle.whole.proofs.Differences.{sum, product, negation}
 use Rattle.whole.proofs.Order.{◌≤ᶻ◌, ◌<ᶻ◌, gap≤, gap<}
 use Rattle.whole.proofs.Linear.{linear≤, linear<, ◌⊞◌, ◌⋆≡◌, antisymmetric, le_of_equal}

@@ -1,5 +1,4 @@
 -- `scan::descend` meets its contract: a turn of the loop passes one row more. Assumes nothing.
-use Prim.Native.Nat.{◌-◌}
 use mathlib.Core.Path.{◌≡◌, refl, ◌∙◌}
 use native.Mathlib.Omega.{arith}
 use lib.ListN.{length}

@@ -1,5 +1,5 @@
 -- `scan::push` meets its contract: a turn of the loop pops one point more. Assumes nothing.
-use Prim.Native.Nat.{◌<◌, ◌-◌}
+use Prim.Native.Nat.{◌-◌}
 use mathlib.Core.Path.{◌≡◌, sym, ◌∙◌, ap, subst}
 use native.Mathlib.Omega.{arith}
 use lib.ListN.{length, length-set}
