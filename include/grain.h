@@ -1,4 +1,4 @@
-/* The convexity columns of a grain report, for C: link target/staticlib/libgrain.a (`rt staticlib grain`; x86-64, Linux).
+/* The convexity columns of a grain report, for C: link target/staticlib/libgrain.a (crate grain_c; x86-64, Linux).
 
    Lists. A grain is a list of numbers x, y, x, y, ..; each list is lent as a pointer and a length, and a length counts numbers, two for
    each point. A pointer is not NULL, also where the length is 0, and lists lent to one call do not overlap. A call reads and writes

@@ -1,4 +1,4 @@
-//! Links the archive that `rt staticlib grain` writes, in the repository around this crate or where GRAIN_ARCHIVE says.
+//! Links the archive that `rust/check` makes of crate grain_c, in the repository around this crate or where GRAIN_ARCHIVE says.
 use std::{env, path::PathBuf};
 
 fn main() {
