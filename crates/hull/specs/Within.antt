@@ -56,6 +56,6 @@ pub record FindsHull (list ordered corners : List ℤ) (limit : ℕ) (answer : H
 
 -- the same for any two rooms of so many pairs
 abbrev pub FindsFor : List ℤ → ℕ → ℕ → ℕ → Hulled → List ℕ → List ℕ → Type 0
-FindsFor list ordered-pairs corner-pairs limit answer keys stack =
-    (ordered corners : List ℤ) → ordered-pairs ≡ length ordered / 2 → corner-pairs ≡ length corners / 2
+FindsFor list ordered_pairs corner_pairs limit answer keys stack =
+    (ordered corners : List ℤ) → ordered_pairs ≡ length ordered / 2 → corner_pairs ≡ length corners / 2
     → FindsHull list ordered corners limit answer keys stack
