@@ -33,6 +33,12 @@ BEFORE = {
     "last_row": ("last_row_lem", "Following.antt Walking.antt Loops.antt walk/proofs/first/Proof.antt walk/proofs/write/Proof.antt misplaced_by_rows/Proof.antt"),
     "in_size": ("in_size_lem", "Headers.antt"),
 }
+# Names with a sign in them.
+SIGNED = dict(it.split(":") for it in (
+    "cornerList?:corner_list? startsFirst?:starts_first? at-point?:at_point? by-gap≤:by_gap≤ by-gap<:by_gap<"
+    " +ℤ-left-comm:+ℤ_left_comm +ℤ-right-comm:+ℤ_right_comm +ℤ-swap:+ℤ_swap *ℤ-distr-l:*ℤ_distr_l *ℤ-distr-r:*ℤ_distr_r"
+    " *ℤ-assoc:*ℤ_assoc *ℤ-left-comm:*ℤ_left_comm *ℤ-swap:*ℤ_swap"
+).split())
 # Names that are not declared but bound: by `as`, or as a parameter.
 BOUND = (
     "coordinateOf gainOf lossOf movedOf naturalOf packedOf refusedOf cornerRoom missingRoom ordered-pairs corner-pairs corner-wide missing-wide"
@@ -98,7 +104,7 @@ def main(argv):
             n, f = declared(text)
             names |= n
             fields |= f
-    new = {name: TOGETHER.get(name, snake(name)) for name in names | fields | set(BOUND)}
+    new = {name: TOGETHER.get(name, snake(name)) for name in names | fields | set(BOUND)} | SIGNED
     if argv == ["--names"]:
         every = {}
         for name in sorted(names | fields):

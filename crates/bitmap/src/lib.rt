@@ -14,7 +14,7 @@ pub const ROOM: usize = 8192;
 
 // What `read` answers: number and place, 0 and 0 if accepted; how many black pixels; width and height.
 #[repr(C)]
-#[derive(Drop)]
+#[derive(Clone, Copy)]
 pub struct Picture {
     pub number: u32,
     pub place: usize,

@@ -8,14 +8,14 @@ ghost use Rattle.figures.specs.Figure.{coordinate as coordinate_of, sum as sum_o
 ghost use Rattle.figures.specs.Figures.{FiguresPromise};
 
 // The centroid of a grain.
-#[derive(Drop)]
+#[derive(Clone, Copy)]
 pub struct Centroid {
     pub x: f64,
     pub y: f64,
 }
 
 // What Figures answers: a refusal, none for the empty list, or the doubles.
-#[derive(Drop)]
+#[derive(Clone, Copy)]
 pub enum Figured {
     Refused { number: u32, place: usize },
     None,

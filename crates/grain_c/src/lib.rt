@@ -23,7 +23,7 @@ use rows::Ends;
 
 // The three cases of Figures in one struct: a refusal has its number; of the others one is given.
 #[repr(C)]
-#[derive(Drop)]
+#[derive(Clone, Copy)]
 pub struct Figures {
     pub number: u32,
     pub given: u32,

@@ -11,7 +11,7 @@ ghost use Rattle.header.specs.Steps.{Settled, Leads, RunAt, Sized};
 const GREATEST_SIZE: usize = 1024;
 
 // A header: width, height and the place behind it; or the place where it breaks.
-#[derive(Drop)]
+#[derive(Clone, Copy)]
 pub enum Header {
     Sound {
         width: usize,

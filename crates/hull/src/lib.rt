@@ -11,7 +11,7 @@ ghost use Rattle.hull.specs.Within.{WithinPromise, HullSpace, HasMore, FindsFor}
 
 // What Hull answers: number and place, 0 and 0 if accepted, and how many points and corners there are.
 #[repr(C)]
-#[derive(Drop)]
+#[derive(Clone, Copy)]
 pub struct Hulled {
     pub number: u32,
     pub place: usize,

@@ -246,9 +246,9 @@ abbrev pub kept? : (c m : List Point) (p : Point) → Decided (Kept c m p)
 kept? c m p =
     in_words (λ h. record { within = h.0; kept = h.1 }) (λ h. (h.within, h.kept)) (both (hull? c p) (negated (in? p m)))
 
-abbrev pub startsFirst? : (l : List Point) → Decided (StartsFirst l)
-startsFirst? [] = record { test = true; sound = λ t. t; complete = λ t. t }
-startsFirst? (a ∷ l) = all? (Before a) (before? a) l
+abbrev pub starts_first? : (l : List Point) → Decided (StartsFirst l)
+starts_first? [] = record { test = true; sound = λ t. t; complete = λ t. t }
+starts_first? (a ∷ l) = all? (Before a) (before? a) l
 
 module _ (s c : List Point) where
   -- a point of s that is a corner is in c
@@ -279,10 +279,10 @@ module _ (s c : List Point) where
     (in_all (Corner s) c h.only, (h.once, (h.start, h.three))),
   )
 
-  abbrev pub cornerList? : Decided (CornerList s c)
-  cornerList? =
+  abbrev pub corner_list? : Decided (CornerList s c)
+  corner_list? =
       in_words list_words words_list
       (both (all? Found found? s)
       (both (all? (Corner s) (corner? s) c)
       (both (pairs? (λ a b. a ≡ b → ⊥) (λ a b. negated (same? a b)) c)
-      (both (startsFirst? c) (triples? Left (λ a b d. lt? (pos 0) (turn a b d)) c)))))
+      (both (starts_first? c) (triples? Left (λ a b d. lt? (pos 0) (turn a b d)) c)))))

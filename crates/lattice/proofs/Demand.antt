@@ -9,7 +9,7 @@ use Rattle.lattice.specs.Hull.{InHull, member, Of, CornerList, MissingList, Kept
 use Rattle.lattice.specs.Refusal.{Table, Gives, Whole, Strays, Misplaced, rebuild_rows}
 use Rattle.lattice.proofs.Lists.{either, all_in}
 use Rattle.lattice.proofs.Places.{place_all, place_chain}
-use Rattle.lattice.proofs.Decide.{yes_or_no, before?, in?, hull?, cornerList?}
+use Rattle.lattice.proofs.Decide.{yes_or_no, before?, in?, hull?, corner_list?}
 use Rattle.lattice.proofs.HullLaws.{hull_larger}
 use Rattle.lattice.proofs.RowOrder.{row_order_by_neighbours}
 use Rattle.lattice.proofs.Sandwich.{Spans, hull_of_spanned, corner_list_of_spanned}
@@ -83,7 +83,7 @@ rebuild_accepts c m later n i g not_8 not_9 not_10 =
     (λ l. (corners h.0, in_order k.0, place_all (λ p. Misplaced c p → ⊥) m (λ j f e. l.0 j (f, e))))))
   where
     corners : ((j : ℕ) → Whole (CornerList c c → ⊥) j → ⊥) → CornerList c c
-    corners f = either (yes_or_no (cornerList? c c)) (λ h. h) (λ k. absurd (f 0 (refl, k)))
+    corners f = either (yes_or_no (corner_list? c c)) (λ h. h) (λ k. absurd (f 0 (refl, k)))
 
     in_order : ((j : ℕ) → Strays m j → ⊥) → Pairs Before m
     in_order f =

@@ -12,7 +12,7 @@ use Rattle.lattice.specs.Hull.{Of, InHull, Missing, MissingList, Kept}
 use Rattle.lattice.specs.Refusal.{accepted, Gives, rebuild_rows}
 use Rattle.lattice.specs.Grains.{Row, grain, rebuild, Verdict, first_of, Holds, AllHold, grains}
 use Rattle.lattice.proofs.Lists.{all_in}
-use Rattle.lattice.proofs.Decide.{Decided, both, in_words, le?, lt?, same?, all?, cornerList?, missing?, kept?, keep}
+use Rattle.lattice.proofs.Decide.{Decided, both, in_words, le?, lt?, same?, all?, corner_list?, missing?, kept?, keep}
 use Rattle.lattice.proofs.Frame.{Framed, frame, hull_framed, listed_by_frame}
 use Rattle.lattice.proofs.Refusals.{accepts, given, rebuild_runs}
 
@@ -80,12 +80,12 @@ module _ (s c : List Point) (v : Bool) (first : Point) (m : List Point) where
   abbrev grain_test : Bool
   grain_test =
       (all? Small small? s).test
-      && ((cornerList? s c).test && (same_list found m && (agrees v m && (same? (first_of m) first).test)))
+      && ((corner_list? s c).test && (same_list found m && (agrees v m && (same? (first_of m) first).test)))
 
   grain_holds : T grain_test → Holds (grain s c v first m)
   grain_holds t =
       let small = all? Small small? s in
-      let corners = cornerList? s c in
+      let corners = corner_list? s c in
       let head = same? (first_of m) first in
       let t₁ = and_yes small.test (corners.test && (same_list found m && (agrees v m && head.test))) t in
       let t₂ = and_yes corners.test (same_list found m && (agrees v m && head.test)) t₁.1 in

@@ -12,7 +12,7 @@ use Rattle.lattice.specs.Point.{Point, least, greatest, InRange, most, points, p
 use Rattle.lattice.specs.Refusal.{First, Table, accepted, ◌when◌else◌, Gives, Whole, AtPoint, Repeats, Strays, OutOfRange, list_rows, rebuild_rows}
 use Rattle.lattice.proofs.Lists.{either}
 use Rattle.lattice.proofs.Places.{lt_or_le, place_all}
-use Rattle.lattice.proofs.Decide.{Decided, both, one_of, in_words, negated, yes_or_no, le?, same?, before?, in?, hull?, cornerList?}
+use Rattle.lattice.proofs.Decide.{Decided, both, one_of, in_words, negated, yes_or_no, le?, same?, before?, in?, hull?, corner_list?}
 
 -- ---- any two outcomes of a table coincide
 not_later : (P : ℕ → Type 0) (i j : ℕ) → First P i → First P j → i ≤ j
@@ -82,8 +82,8 @@ given (then {k} {P} {later} p r) = given_by k P later p (search_places P p.each 
 abbrev pub whole? : {P : Type 0} → Decided P → Places (Whole P)
 whole? d = record { bound = 1; bounded = λ i h. omega (arith, h.0); each = λ i. both (equals? i 0) d }
 
-abbrev pub at-point? : {P : Point → Type 0} → ((p : Point) → Decided (P p)) → (l : List Point) → Places (AtPoint P l)
-at-point? d l = record { bound = length l; bounded = λ i h. h.0; each = λ i. both (below? i (length l)) (d (point l i)) }
+abbrev pub at_point? : {P : Point → Type 0} → ((p : Point) → Decided (P p)) → (l : List Point) → Places (AtPoint P l)
+at_point? d l = record { bound = length l; bounded = λ i h. h.0; each = λ i. both (below? i (length l)) (d (point l i)) }
 
 -- some earlier place
 module _ (Q : ℕ → Type 0) (i : ℕ) where
@@ -139,9 +139,9 @@ abbrev pub list_runs : (a : List ℤ) {later : Table} → Runs later → Runs (l
 list_runs a r =
     then (whole? (equals? (length a % 2) 1))
     (then (whole? (below? most (length (points a))))
-    (then (at-point? (λ p. negated (range? p)) (points a)) (then (repeats? (points a)) r)))
+    (then (at_point? (λ p. negated (range? p)) (points a)) (then (repeats? (points a)) r)))
 
 abbrev pub rebuild_runs : (c m : List Point) {later : Table} → Runs later → Runs (rebuild_rows c m later)
 rebuild_runs c m r =
-    then (whole? (negated (cornerList? c c)))
-    (then (strays? m) (then (at-point? (λ p. one_of (negated (hull? c p)) (in? p c)) m) r))
+    then (whole? (negated (corner_list? c c)))
+    (then (strays? m) (then (at_point? (λ p. one_of (negated (hull? c p)) (in? p c)) m) r))

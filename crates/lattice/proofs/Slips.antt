@@ -13,7 +13,7 @@ use Rattle.lattice.specs.Grains.{at}
 use Rattle.lattice.proofs.Turn.{coordinates, Left, start_on_edge, end_on_edge}
 use Rattle.lattice.proofs.Lists.{all_in, Bends}
 use Rattle.lattice.proofs.HalfPlane.{point_equal, half_plane, edge_half_plane}
-use Rattle.lattice.proofs.Decide.{triples?, lt?, startsFirst?, missing?}
+use Rattle.lattice.proofs.Decide.{triples?, lt?, starts_first?, missing?}
 use Rattle.lattice.proofs.Polygon.{polygon_by_ends}
 use Rattle.lattice.proofs.CornerLists.{corner_list_shape, hull_of_corners}
 
@@ -28,7 +28,7 @@ star =
     ∷ []
 
 pub star_starts_first : StartsFirst star
-star_starts_first = (startsFirst? star).sound tt
+star_starts_first = (starts_first? star).sound tt
 
 pub star_turns_left : Bends Left (star ++ take 2 star)
 star_turns_left =

@@ -5,7 +5,7 @@ ghost use Rattle.std.specs.Prelude.{◌≡◌, ◌+◌, ◌*◌, ◌^◌, ◌<�
 ghost use Rattle.netpbm.specs.Space.{white_space};
 
 // How many pixels are black; or the first fault, number and place.
-#[derive(Drop)]
+#[derive(Clone, Copy)]
 pub enum Count {
     Black(usize),
     Fault(u32, usize),

@@ -7,7 +7,7 @@ use Rattle.lattice.specs.Point.{Point, In}
 use Rattle.lattice.specs.Hull.{Of, Missing, CornerList, MissingList}
 use Rattle.lattice.specs.Grains.{at}
 use Rattle.lattice.proofs.Lists.{all_in}
-use Rattle.lattice.proofs.Decide.{Decided, both, in_words, le?, lt?, all?, missing?, cornerList?}
+use Rattle.lattice.proofs.Decide.{Decided, both, in_words, le?, lt?, all?, missing?, corner_list?}
 use Rattle.lattice.proofs.Frame.{Framed, hull_framed, listed_by_frame}
 use Rattle.bitmap.specs.Picture.{reading_of}
 use Rattle.bitmap.proofs.Example.{ring}
@@ -38,7 +38,7 @@ framed : (p : Point) → In p pixels → Inside p
 framed = all_in Inside pixels ((all? Inside inside? pixels).sound tt)
 
 ring_corners : CornerList pixels corners
-ring_corners = (cornerList? pixels corners).sound tt
+ring_corners = (corner_list? pixels corners).sound tt
 
 ring_missing : MissingList pixels missing
 ring_missing =

@@ -12,7 +12,7 @@ use netpbm::Count;
 pub const PART: usize = 64;
 
 // The next pixel and the place behind it; or a fault, number and place.
-#[derive(Drop)]
+#[derive(Clone, Copy)]
 pub enum Pixel {
     Black(usize),
     White(usize),
@@ -20,7 +20,7 @@ pub enum Pixel {
 }
 
 // How many of some bytes are black pixels, white pixels, and neither a pixel nor white space.
-#[derive(Drop)]
+#[derive(Clone, Copy)]
 pub struct Tally {
     pub black: usize,
     pub white: usize,

@@ -10,7 +10,7 @@ ghost use Rattle.rebuild.specs.Looking.{Taken, Looks, Foreseen};
 
 // What Rebuild answers: number and place, 0 and 0 if accepted, and how many points there are.
 #[repr(C)]
-#[derive(Drop)]
+#[derive(Clone, Copy)]
 pub struct Rebuilt {
     pub number: u32,
     pub place: usize,

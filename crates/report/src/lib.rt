@@ -8,7 +8,7 @@ ghost use Rattle.report.specs.Answer.{JudgedBy, ReportedBy};
 // What Verdict answers: number and place, 0 and 0 if accepted, how many points and corners there are, the verdict, and the first missing
 // point, (0, 0) where there is none.
 #[repr(C)]
-#[derive(Drop)]
+#[derive(Clone, Copy)]
 pub struct Judged {
     pub number: u32,
     pub place: usize,
@@ -21,7 +21,7 @@ pub struct Judged {
 
 // What Report answers: the same, and how many missing points there are.
 #[repr(C)]
-#[derive(Drop)]
+#[derive(Clone, Copy)]
 pub struct Reported {
     pub number: u32,
     pub place: usize,

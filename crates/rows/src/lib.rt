@@ -8,7 +8,7 @@ ghost use Rattle.rows.specs.Row.{Sound, LeadsTo, RunsTo, RowEndsPromise, RowProm
 
 // Where the points of a row begin and end, in points from the list's start.
 #[repr(C)]
-#[derive(Drop)]
+#[derive(Clone, Copy)]
 pub struct Ends {
     pub begin: usize,
     pub end: usize,

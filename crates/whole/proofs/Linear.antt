@@ -10,7 +10,7 @@ use lib.Dec.{lt→ltb}
 use lib.IntN.{ℤ, pos, negsuc, neg_ℤ, ◌+ℤ◌, ◌*ℤ◌, ◌-ℤ◌, +ℤ_invr, *ℤ-zero}
 use Rattle.whole.proofs.Polynomial.{Expression, constant, ◌⊕◌, ◌⊖◌, value, normal, NotNegative, Vanishes, natural_value, same_value}
 use Rattle.whole.proofs.Quote.{Is, expression, quoted, ring, quote}
-use Rattle.whole.proofs.Order.{◌≤ᶻ◌, ◌<ᶻ◌, NonNegative, Positive, natural, sum_nonnegative, product_nonnegative, gap≤, gap<, by-gap≤, by-gap<}
+use Rattle.whole.proofs.Order.{◌≤ᶻ◌, ◌<ᶻ◌, NonNegative, Positive, natural, sum_nonnegative, product_nonnegative, gap≤, gap<, by_gap≤, by_gap<}
 
 -- ---- putting certificates together
 infixr 3 ◌⊞◌
@@ -55,12 +55,12 @@ module _ (ρ : List ℤ) {z a b : ℤ} (h : NonNegative z) (q : Is ρ z × Is ρ
 
   pub linear≤ : NotNegative (normal (expression q.2 ⊖ expression q.1 ⊖ expression q.0)) → a ≤ᶻ b
   unfolding gap
-  linear≤ t = by-gap≤ (carry ρ gap (expression q.0) gap_value (quoted q.0) t h)
+  linear≤ t = by_gap≤ (carry ρ gap (expression q.0) gap_value (quoted q.0) t h)
 
   pub linear< : NotNegative (normal (expression q.2 ⊖ expression q.1 ⊖ constant (pos 1) ⊖ expression q.0)) → a <ᶻ b
   unfolding gap
   linear< t =
-      by-gap<
+      by_gap<
       (carry ρ (gap ⊖ constant (pos 1)) (expression q.0) (ap (λ u. u -ℤ pos 1) gap_value) (quoted q.0) t h)
 
 -- hypotheses that cannot all hold

@@ -102,8 +102,8 @@ gap≤ {a} {b} h =
     cancel : (n : ℤ) → a +ℤ n -ℤ a ≡ n
     cancel n = ring (a ∷ n ∷ []) (search quote depth 20) tt
 
-pub by-gap≤ : {a b : ℤ} → NonNegative (b -ℤ a) → a ≤ᶻ b
-by-gap≤ {a} {b} h =
+pub by_gap≤ : {a b : ℤ} → NonNegative (b -ℤ a) → a ≤ᶻ b
+by_gap≤ {a} {b} h =
     subst (λ z. a ≤ᶻ z) (ap (λ z. a +ℤ z) (sym (is_natural h).1) ∙ cancel) (at_least a (is_natural h).0)
   where
     cancel : a +ℤ (b -ℤ a) ≡ b
@@ -137,11 +137,11 @@ gap< {a} {b} h = subst (λ z. NonNegative z) move (gap≤ up)
     move : b -ℤ suc_ℤ a ≡ b -ℤ a -ℤ pos 1
     move = ap (λ z. b -ℤ z) (sym (+ℤ_one a)) ∙ ring (a ∷ b ∷ []) (search quote depth 20) tt
 
-pub by-gap< : {a b : ℤ} → NonNegative (b -ℤ a -ℤ pos 1) → a <ᶻ b
-by-gap< {a} {b} h = record { lt = le_successor a b up.le }
+pub by_gap< : {a b : ℤ} → NonNegative (b -ℤ a -ℤ pos 1) → a <ᶻ b
+by_gap< {a} {b} h = record { lt = le_successor a b up.le }
   where
     move : b -ℤ a -ℤ pos 1 ≡ b -ℤ suc_ℤ a
     move = ring (a ∷ b ∷ []) (search quote depth 20) tt ∙ ap (λ z. b -ℤ z) (+ℤ_one a)
 
     up : suc_ℤ a ≤ᶻ b
-    up = by-gap≤ (subst (λ z. NonNegative z) move h)
+    up = by_gap≤ (subst (λ z. NonNegative z) move h)

@@ -5,7 +5,7 @@ use mathlib.Core.List.{List, [], ◌∷◌}
 use Prim.Native.Nat.{ℕ, zero, suc, ◌+◌, ◌*◌, compare, Ordering}
 use lib.Dec.{T, compare_is_eq, eqb→eq}
 use lib.IntN.{ℤ, pos, negsuc, neg_ℤ, ◌+ℤ◌, ◌*ℤ◌, +ℤ_assoc, +ℤ_idl, +ℤ_idr, zero-*ℤ, *ℤ_comm, *ℤ-zero, neg_ℤ-+ℤ}
-use Rattle.whole.proofs.Laws.{+ℤ-left-comm, +ℤ-swap, *ℤ-distr-r, *ℤ-distr-l, neg-*ℤ, *ℤ-assoc, *ℤ-left-comm, *ℤ-swap, one-*ℤ, equal_of_difference}
+use Rattle.whole.proofs.Laws.{+ℤ_left_comm, +ℤ_swap, *ℤ_distr_r, *ℤ_distr_l, neg-*ℤ, *ℤ_assoc, *ℤ_left_comm, *ℤ_swap, one-*ℤ, equal_of_difference}
 
 -- ---- expressions
 infixl 6 ◌⊕◌
@@ -144,7 +144,7 @@ module _ (ρ : List ℤ) where
       choose_cases (compare i j) (i ∷ j ∷ m) (i ∷ j ∷ m) (j ∷ insert i m) (λ r. monomial r ≡ at ρ i *ℤ monomial (j ∷ m))
       refl
       (λ e. refl)
-      (ap (λ x. at ρ j *ℤ x) (insert_value i m) ∙ *ℤ-left-comm (at ρ j) (at ρ i) (monomial m))
+      (ap (λ x. at ρ j *ℤ x) (insert_value i m) ∙ *ℤ_left_comm (at ρ j) (at ρ i) (monomial m))
 
   multiply_monomials_value : (m n : List ℕ) → monomial (multiply_monomials m n) ≡ monomial m *ℤ monomial n
   unfolding monomial
@@ -152,7 +152,7 @@ module _ (ρ : List ℤ) where
   multiply_monomials_value (i ∷ m) n =
       insert_value i (multiply_monomials m n)
       ∙ ap (λ x. at ρ i *ℤ x) (multiply_monomials_value m n)
-      ∙ sym (*ℤ-assoc (at ρ i) (monomial m) (monomial n))
+      ∙ sym (*ℤ_assoc (at ρ i) (monomial m) (monomial n))
 
   front_value : (c : ℤ) (m : List ℕ) (p : Polynomial) → polynomial (front c m p) ≡ c *ℤ monomial m +ℤ polynomial p
   unfolding polynomial
@@ -173,11 +173,11 @@ module _ (ρ : List ℤ) where
       ∙ sym (+ℤ_assoc (c *ℤ monomial m) (polynomial p) (polynomial (term d n q))))
       (λ t. front_value (c +ℤ d) n (f q)
       ∙ ap (λ x. (c +ℤ d) *ℤ monomial n +ℤ x) (h q)
-      ∙ ap (λ x. x +ℤ (polynomial p +ℤ polynomial q)) (*ℤ-distr-r c d (monomial n))
-      ∙ +ℤ-swap (c *ℤ monomial n) (d *ℤ monomial n) (polynomial p) (polynomial q)
+      ∙ ap (λ x. x +ℤ (polynomial p +ℤ polynomial q)) (*ℤ_distr_r c d (monomial n))
+      ∙ +ℤ_swap (c *ℤ monomial n) (d *ℤ monomial n) (polynomial p) (polynomial q)
       ∙ ap (λ x. c *ℤ monomial x +ℤ polynomial p +ℤ (d *ℤ monomial n +ℤ polynomial q)) (sym (monomials_equal m n t)))
       (ap (λ x. d *ℤ monomial n +ℤ x) (merge_value c m p f h q)
-      ∙ +ℤ-left-comm (d *ℤ monomial n) (c *ℤ monomial m +ℤ polynomial p) (polynomial q))
+      ∙ +ℤ_left_comm (d *ℤ monomial n) (c *ℤ monomial m +ℤ polynomial p) (polynomial q))
 
   add_value : (p q : Polynomial) → polynomial (add p q) ≡ polynomial p +ℤ polynomial q
   unfolding polynomial
@@ -190,9 +190,9 @@ module _ (ρ : List ℤ) where
   multiply_term_value c m nil = sym (*ℤ-zero (c *ℤ monomial m))
   multiply_term_value c m (term d n q) =
       ap (λ x. c *ℤ d *ℤ x +ℤ polynomial (multiply_term c m q)) (multiply_monomials_value m n)
-      ∙ ap (λ x. x +ℤ polynomial (multiply_term c m q)) (*ℤ-swap c d (monomial m) (monomial n))
+      ∙ ap (λ x. x +ℤ polynomial (multiply_term c m q)) (*ℤ_swap c d (monomial m) (monomial n))
       ∙ ap (λ x. c *ℤ monomial m *ℤ (d *ℤ monomial n) +ℤ x) (multiply_term_value c m q)
-      ∙ sym (*ℤ-distr-l (c *ℤ monomial m) (d *ℤ monomial n) (polynomial q))
+      ∙ sym (*ℤ_distr_l (c *ℤ monomial m) (d *ℤ monomial n) (polynomial q))
 
   multiply_value : (p q : Polynomial) → polynomial (multiply p q) ≡ polynomial p *ℤ polynomial q
   unfolding polynomial
@@ -201,7 +201,7 @@ module _ (ρ : List ℤ) where
       add_value (multiply_term c m q) (multiply p q)
       ∙ ap (λ x. x +ℤ polynomial (multiply p q)) (multiply_term_value c m q)
       ∙ ap (λ x. c *ℤ monomial m *ℤ polynomial q +ℤ x) (multiply_value p q)
-      ∙ sym (*ℤ-distr-r (c *ℤ monomial m) (polynomial p) (polynomial q))
+      ∙ sym (*ℤ_distr_r (c *ℤ monomial m) (polynomial p) (polynomial q))
 
   negate_value : (p : Polynomial) → polynomial (negate p) ≡ neg_ℤ (polynomial p)
   unfolding polynomial
