@@ -11,14 +11,17 @@ use lib.ListN.{length, take, drop}
 use lib.IntN.{ℤ}
 use Rattle.lattice.specs.Point.{Point, InRange, most, points, All, Pairs, Before, Lists}
 use Rattle.lattice.proofs.Rooms.{holding_points}
+use Rattle.std.specs.Prelude.{Ok, Err}
+use Rattle.refusal.specs.declared.Refusal.{Refusal}
+use Rattle.refusal.specs.declared.Refusal.TheVariants.{OddLength, TooManyPoints, OutOfRange, Repeated, OrderedTooSmall, CornersTooSmall, MissingTooSmall, NoCornerList, Strays, Misplaced, TooManyResult, PointsTooSmall, PictureTooLong, NoP1, BadHeader, BadPixel, PixelsEndEarly, BytesAfterPixels}
+use Rattle.refusal.specs.Number.{number_of}
 use Rattle.netpbm.specs.Raster.{Raster, pixels, fault, black}
 use Rattle.netpbm.proofs.Points.{BlackPixel, black_lists, black_range}
 use Rattle.header.specs.declared.Header.{Header}
-use Rattle.header.specs.declared.Header.TheVariants.{Sound, Bad}
-use Rattle.header.specs.Header.{header_of}
+use Rattle.header.specs.Header.{Checked, header_of}
 use Rattle.header.proofs.Headers.{sound_sizes}
 use Rattle.plain.specs.Plain.{plain_at}
-use Rattle.plain.proofs.Outcome.{plain_length, fault_numbered}
+use Rattle.plain.proofs.Outcome.{plain_length}
 use Rattle.bitmap.specs.declared.Picture.{Picture}
 use Rattle.bitmap.specs.Picture.{Reading, picture, refused, longest, begins_p1, rastered, headed, reading_of, answer_of, list_after, PicturePromise}
 
@@ -26,7 +29,7 @@ use Rattle.bitmap.specs.Picture.{Reading, picture, refused, longest, begins_p1, 
 pub record Drawn (bytes : List ℕ) (width height : ℕ) (l : List Point) : Type 0 where
   pub at : ℕ
   pub colours : List Bool
-  pub header : header_of bytes ≡ Sound width height at
+  pub header : header_of bytes ≡ Ok (record { width = width; height = height; at = at })
   pub raster : plain_at bytes (width * height) at ≡ pixels colours
   pub lists : Lists (BlackPixel width colours) l
   pub few : length l ≤ most
@@ -40,32 +43,55 @@ either_fair : (bytes : List ℕ) (t : Bool) (a b : Reading) → (t ≡ true → 
 either_fair bytes true a b f g = f refl
 either_fair bytes false a b f g = g refl
 
+-- a refusal has a number
+pub numbered : (refusal : Refusal) → 0 < number_of refusal
+numbered OddLength = omega arith
+numbered TooManyPoints = omega arith
+numbered (OutOfRange place) = omega arith
+numbered (Repeated place) = omega arith
+numbered OrderedTooSmall = omega arith
+numbered CornersTooSmall = omega arith
+numbered MissingTooSmall = omega arith
+numbered NoCornerList = omega arith
+numbered (Strays place) = omega arith
+numbered (Misplaced place) = omega arith
+numbered TooManyResult = omega arith
+numbered PointsTooSmall = omega arith
+numbered PictureTooLong = omega arith
+numbered NoP1 = omega arith
+numbered (BadHeader place) = omega arith
+numbered (BadPixel place) = omega arith
+numbered (PixelsEndEarly place) = omega arith
+numbered (BytesAfterPixels place) = omega arith
+
 reading_fair : (bytes : List ℕ) → Fair bytes (reading_of bytes)
 reading_fair bytes =
     either_fair bytes (ltb longest (length bytes)) (refused 20 longest) (cond (begins_p1 bytes) (headed bytes (header_of bytes)) (refused 21 0))
     (λ _. omega arith)
     (λ _. either_fair bytes (begins_p1 bytes) (headed bytes (header_of bytes)) (refused 21 0) (λ _. by_header (header_of bytes) refl) (λ _. omega arith))
   where
-    by_raster : (width height at : ℕ) → header_of bytes ≡ Sound width height at
-        → (r : Raster) → plain_at bytes (width * height) at ≡ r → Fair bytes (rastered width height r)
-    by_raster width height at e (pixels l) f =
-        let s = sound_sizes width height at bytes e in
-        let points = black width 0 l in
-        either_fair bytes (ltb most (length points)) (refused 2 0) (picture width height points) (λ _. omega arith)
+    by_raster : (h : Header) → header_of bytes ≡ Ok h
+        → (r : Raster) → plain_at bytes (h.width * h.height) h.at ≡ r → Fair bytes (rastered h.width h.height r)
+    by_raster h e (pixels l) f =
+        let s = sound_sizes h bytes e in
+        let points = black h.width 0 l in
+        either_fair bytes (ltb most (length points)) (refused 2 0) (picture h.width h.height points) (λ _. omega arith)
         (λ g. record {
-          at = at;
+          at = h.at;
           colours = l;
           header = e;
           raster = f;
-          lists = black_lists width l s.0.0;
+          lists = black_lists h.width l s.0.0;
           few = ltb-false most (length points) g;
-          range = black_range width height l s.0.0 (omega (arith, s.0.1)) (omega (arith, s.1.1)) (plain_length (drop at bytes) (width * height) at l f);
+          range =
+              black_range h.width h.height l s.0.0 (omega (arith, s.0.1)) (omega (arith, s.1.1))
+              (plain_length (drop h.at bytes) (h.width * h.height) h.at l f);
         })
-    by_raster width height at e (fault number place) f = fault_numbered (drop at bytes) (width * height) at number place f
+    by_raster h e (fault refusal) f = numbered refusal
 
-    by_header : (h : Header) → header_of bytes ≡ h → Fair bytes (headed bytes h)
-    by_header (Sound width height at) e = by_raster width height at e (plain_at bytes (width * height) at) refl
-    by_header (Bad place) e = omega arith
+    by_header : (c : Checked) → header_of bytes ≡ c → Fair bytes (headed bytes c)
+    by_header (Ok h) e = by_raster h e (plain_at bytes (h.width * h.height) h.at) refl
+    by_header (Err refusal) e = numbered refusal
 
 -- ---- over the promise
 module _ (bytes : List ℕ) (list : List ℤ) (answer : Picture) (after : List ℤ) (h : PicturePromise bytes list answer after)

@@ -2,17 +2,26 @@
 #![tactic(auto)]
 
 ghost use Rattle.std.specs.Prelude.{◌≡◌};
-ghost use Rattle.bitmap.specs.Picture.{refused as refused_of, begins_p1, answer_of, PicturePromise};
+ghost use Rattle.bitmap.specs.Picture.{picture_of, PicturePromise};
 
 use header::Header;
-use netpbm::Count;
+use refusal::Refusal;
 
-// The longest file, and the numbers that the list has room for.
-pub const LONGEST: usize = 65536;
+// The longest file.
+pub use refusal::LONGEST;
 
+// The numbers that the list has room for.
 pub const ROOM: usize = 8192;
 
-// What `read` answers: number and place, 0 and 0 if accepted; how many black pixels; width and height.
+// What an accepted picture holds: how many black pixels; width and height.
+#[derive(Clone, Copy)]
+pub struct Image {
+    pub points: usize,
+    pub width: usize,
+    pub height: usize,
+}
+
+// What C is told: number and place, 0 and 0 if accepted; how many black pixels; width and height.
 #[repr(C)]
 #[derive(Clone, Copy)]
 pub struct Picture {
@@ -23,66 +32,49 @@ pub struct Picture {
     pub height: usize,
 }
 
-// Whether the file begins with P1.
-fn begins(bytes: &[u8]) -> bool
-    ensures { result ≡ begins_p1 bytes.now }
-{
-    if bytes.len() < 2 {
-        return false;
-    }
-    if bytes[0] == b'P' {
-        return bytes[1] == b'1';
-    }
-    false
-}
+impl From<Result<Image, Refusal>> for Picture {
+    ghost from_gives = { λ r p. p ≡ picture_of r };
 
-// The answer for a declined picture.
-fn refused(number: u32, place: usize) -> Picture
-    ensures { result ≡ answer_of (refused_of number place) }
-{
-    Picture {
-        number,
-        place,
-        points: 0,
-        width: 0,
-        height: 0,
+    fn from(answer: Result<Image, Refusal>) -> Picture {
+        match answer {
+            Ok(image) => Picture {
+                number: 0,
+                place: 0,
+                points: image.points,
+                width: image.width,
+                height: image.height,
+            },
+            Err(refusal) => Picture {
+                number: refusal.number(),
+                place: refusal.place(),
+                points: 0,
+                width: 0,
+                height: 0,
+            },
+        }
     }
 }
 
 // A plain bitmap's black pixels, written to the front of the list in row order; or why it is declined.
-pub fn read(bytes: &[u8], list: &mut [i32; ROOM]) -> Picture
-    ensures { PicturePromise bytes.now list.old result list.new }
+pub fn read(bytes: &[u8], list: &mut [i32; ROOM]) -> Result<Image, Refusal>
+    ensures { PicturePromise bytes.now list.old (picture_of result) list.new }
 {
     if LONGEST < bytes.len() {
-        return refused(20, LONGEST);
+        return Err(Refusal::PictureTooLong);
     }
-    if begins(bytes) {
-        match header::check(bytes) {
-            Header::Sound { width, height, at } => {
-                let pixels = width * height;
-                match plain::check(bytes, at, pixels) {
-                    Count::Black(points) => {
-                        if packed::MOST < points {
-                            return refused(2, 0);
-                        }
-                        black::write(bytes, at, width, pixels, list);
-                        return Picture {
-                            number: 0,
-                            place: 0,
-                            points,
-                            width,
-                            height,
-                        };
-                    }
-                    Count::Fault(number, place) => {
-                        return refused(number, place);
-                    }
-                }
-            }
-            Header::Bad(place) => {
-                return refused(22, place);
-            }
-        }
+    if !bytes.starts_with(b"P1") {
+        return Err(Refusal::NoP1);
     }
-    refused(21, 0)
+    let Header { width, height, at } = header::check(bytes)?;
+    let pixels = width * height;
+    let points = plain::check(bytes, at, pixels)?;
+    if packed::MOST < points {
+        return Err(Refusal::TooManyPoints);
+    }
+    black::write(bytes, at, width, pixels, list);
+    Ok(Image {
+        points,
+        width,
+        height,
+    })
 }

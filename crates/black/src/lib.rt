@@ -8,14 +8,37 @@ ghost use Rattle.netpbm.specs.Steps.{Passes, Writable};
 ghost use Rattle.plain.specs.Plain.{plain_at};
 ghost use Rattle.black.specs.Row.{Begun, RowOf};
 
-use plain::{PART, Pixel};
+use plain::{PART, Pixels, Tally};
 
-// How many white pixels were passed; the place behind them; and a place up to which no part is worth a look.
+// The pixels of a picture with no fault, and a place up to which no part is worth a look.
 #[derive(Drop)]
-struct Passed {
-    pixels: usize,
-    next: usize,
+struct Scan<'a> {
+    pixels: Pixels<'a>,
     until: usize,
+}
+
+impl Scan<'_> {
+    // Passes white pixels by parts, up to one with a black pixel, which `until` spares a second look: how many.
+    fn pass_white(&mut self) -> usize
+        ensures same { self.new.pixels.bytes.now ≡ self.old.pixels.bytes.now }
+        ensures passes { Passes (plain_at self.old.pixels.bytes.now) self.old.pixels.at result self.new.pixels.at }
+    {
+        if self.pixels.at < self.until {
+            return 0;
+        }
+        let mut white = 0;
+        self.until = self.pixels.bytes.len();
+        while let Some(part) = self.pixels.part() {
+            let tally = Tally::of(part);
+            if 0 < tally.black {
+                self.until = self.pixels.at + PART;
+                break;
+            }
+            white += tally.white;
+            self.pixels.at += PART;
+        }
+        white
+    }
 }
 
 // A row and the number of its first pixel.
@@ -25,51 +48,20 @@ struct Row {
     first: usize,
 }
 
-// White pixels of a picture with no fault, from a place on, by parts up to one with a black pixel, which `until` spares a second look.
-fn pass_white(bytes: &[u8], at: usize, until: usize) -> Passed
-    ensures { Passes (plain_at bytes.now) at result.pixels result.next }
-{
-    if at < until {
-        return Passed {
-            pixels: 0,
-            next: at,
-            until,
-        };
-    }
-    let mut pixels: usize = 0;
-    let mut i = at;
-    while plain::whole_part(bytes, i) {
-        let part = plain::tally_part(bytes, i, i + PART);
-        if 0 < part.black {
-            return Passed {
-                pixels,
-                next: i,
-                until: i + PART,
-            };
+impl Row {
+    // The row of pixel k, from that of an earlier pixel: a division only where that row ends before k.
+    fn of(self, k: usize, width: usize) -> Self
+        requires { Begun width k self × (1 ≤ width) }
+        ensures { RowOf width k result }
+    {
+        if k - self.first < width {
+            return self;
         }
-        pixels += part.white;
-        i += PART;
-    }
-    Passed {
-        pixels,
-        next: i,
-        until: bytes.len(),
-    }
-}
-
-// The row of pixel k: that of an earlier pixel, and a division only where that row ends before k.
-fn row_of(row: Row, k: usize, width: usize) -> Row
-    requires { Begun width k row × (1 ≤ width) }
-    ensures { RowOf width k result }
-{
-    let first = row.first;
-    if k - first < width {
-        return row;
-    }
-    let y = k / width;
-    Row {
-        y,
-        first: y * width,
+        let y = k / width;
+        Row {
+            y,
+            first: y * width,
+        }
     }
 }
 
@@ -78,29 +70,24 @@ pub fn write(bytes: &[u8], at: usize, width: usize, pixels: usize, list: &mut [i
     requires { Writable (plain_at bytes.now pixels at) width pixels list.old }
     ensures { list.new ≡ holding (black_in width (plain_at bytes.now pixels at)) list.old }
 {
+    let mut scan = Scan {
+        pixels: Pixels { bytes, at },
+        until: at,
+    };
     let mut row = Row { y: 0, first: 0 };
-    let mut n: usize = 0;
-    let mut k: usize = 0;
-    let mut i = at;
-    let mut until = at;
+    let mut n = 0;
+    let mut k = 0;
+    // No `for`: k also passes the white pixels that `pass_white` counts.
     while k < pixels {
-        match plain::fetch(bytes, i) {
-            Pixel::Black(next) => {
-                row = row_of(row, k, width);
-                netpbm::put(list, n, k - row.first, row.y);
-                n += 1;
-                k += 1;
-                i = next;
-            }
-            Pixel::White(next) => {
-                let passed = pass_white(bytes, next, until);
-                k = k + 1 + passed.pixels;
-                i = passed.next;
-                until = passed.until;
-            }
-            Pixel::Fault(_, _) => {
-                return;
-            }
+        let black = scan.pixels.next().unwrap();
+        if black {
+            row = row.of(k, width);
+            netpbm::put(list, n, k - row.first, row.y);
+            n += 1;
+            k += 1;
+        } else {
+            k += 1;
+            k += scan.pass_white();
         }
     }
 }

@@ -16,9 +16,9 @@ digits_enough (suc k) zero n h g = let e : n ≡ 0 = omega arith in rw e
 digits_enough (suc k) (suc m) n h g =
     ap (λ l. cond (ltb n 10) ((48 + n) ∷ []) (l ++ (48 + n % 10) ∷ [])) (digits_enough k m (n / 10) (omega arith) (omega arith))
 
-pub natural_one : (n : ℕ) → n < 10 → natural n ≡ (48 + n % 10) ∷ []
+pub natural_one : (n : ℕ) → n < 10 → natural n ≡ (48 + n) ∷ []
 natural_one zero h = refl
-natural_one (suc n) h = let e : suc n % 10 ≡ suc n = omega arith in rw (lt-ltb (suc n) 10 h, e)
+natural_one (suc n) h = rw (lt-ltb (suc n) 10 h)
 
 pub natural_more : (n : ℕ) → 10 ≤ n → natural n ≡ natural (n / 10) ++ (48 + n % 10) ∷ []
 natural_more zero h = absurd (never h)

@@ -2,16 +2,16 @@
 use mathlib.Core.Path.{◌≡◌, sym, ◌∙◌, ap}
 use mathlib.Core.Bool.{cond}
 use mathlib.Core.List.{List, ◌++◌, append-nil}
-use Prim.Native.Nat.{ℕ, suc, ◌+◌, ◌≤◌, ◌<◌, min}
+use Prim.Native.Nat.{ℕ, ◌+◌, ◌-◌, ◌≤◌, ◌<◌}
 use native.Mathlib.Omega.{arith}
-use borrow.Author.Tests.{lt-leb}
-use lib.Dec.{leb}
-use lib.ListN.{length, take, drop, length-append, length-drop, take-append-drop, drop_of_length-le}
+use borrow.Author.Tests.{le-leb, lt-leb}
+use lib.ListN.{length, take, drop, length-append, length-drop, drop_of_length-le}
 use lib.Seq.{sets, sets-eq, length-sets, take_all, take-append-le, length-take-le}
 use Rattle.lattice.proofs.Lists.{either}
 use Rattle.lattice.proofs.Places.{lt_or_le}
-use Rattle.csv_text.specs.Written.{written, fitted, WritePromise, Puts}
-use Rattle.csv_text.proofs.Putting.{sets_append, sets_out}
+use Rattle.csv_text.specs.declared.text.Text.{Text}
+use Rattle.csv_text.specs.Written.{written, WritePromise, Whole, Cut}
+use Rattle.csv_text.proofs.Putting.{sets_cut}
 
 -- ---- a text that fits, and one that does not
 sets_whole : (text out : List ℕ) → length text ≤ length out → sets out 0 text ≡ text ++ drop (length text) out
@@ -28,34 +28,32 @@ module _ (text out : List ℕ) where
   written_cut : length out < length text → written text out ≡ take (length out) text
   written_cut h = take-append-le (length out) text (drop (length text) out) (omega arith)
 
-  sets_cut : length out < length text → sets out 0 text ≡ take (length out) text
-  sets_cut h =
-      let n = length out in
-      let front = take n text in
-      let l : length front ≡ n = length-take-le n text (omega arith) in
-      ap (sets out 0) (sym (take-append-drop n text))
-      ∙ sets_append out 0 front (drop n text)
-      ∙ sets_out (sets out 0 front) (0 + length front) (drop n text) (omega (arith, length-sets out 0 front, l))
+  cut_stands : length out < length text → sets out 0 (take (length out - 0) text) ≡ take (length out) text
+  cut_stands h =
+      let front = take (length out) text in
+      let l : length front ≡ length out = length-take-le (length out) text (omega arith) in
+      let e : length out - 0 ≡ length out = omega arith in
+      ap (λ n. sets out 0 (take n text)) e
       ∙ sets_whole front out (omega (arith, l))
       ∙ ap (λ m. front ++ m) (drop_of_length-le out {i = length front} (omega (arith, l)))
       ∙ append-nil front
 
   sets_written : sets out 0 text ≡ written text out
   sets_written =
-      either (lt_or_le (length out) (length text)) (λ h. sets_cut h ∙ sym (written_cut h)) (λ h. sets_whole text out h ∙ sym (written_whole h))
+      either (lt_or_le (length out) (length text)) (λ h. sets_cut out 0 text (omega arith) (omega arith) ∙ cut_stands h ∙ sym (written_cut h)) (λ h. sets_whole text out h ∙ sym (written_whole h))
 
-  fitted_place : cond (leb (min (0 + length text) (suc (length out))) (length out)) (min (0 + length text) (suc (length out))) 0 ≡ fitted text out
-  fitted_place =
-      either (lt_or_le (length out) (length text))
-      (λ h. let e : min (0 + length text) (suc (length out)) ≡ suc (length out) = omega arith in
-      let g : length out < suc (length out) = omega arith in
-      rw (e, lt-leb (suc (length out)) (length out) g, lt-leb (length text) (length out) h))
-      (λ h. let e : min (0 + length text) (suc (length out)) ≡ length text = omega arith in rw e)
+-- ---- what stands in the room at the end, and how long the text is
+module _ (text : List ℕ) (before after : Text) (front : before.at ≡ 0) (room : List ℕ) (same : room ≡ after.room.now) where
+  from_front : after.room.now ≡ sets before.room.now before.at text → room ≡ written text before.room.now
+  from_front stands = same ∙ stands ∙ ap (λ n. sets before.room.now n text) front ∙ sets_written text before.room.now
 
-  pub promised : (place : ℕ) (after : List ℕ) → Puts out 0 text place after
-      → (answer : ℕ) → answer ≡ cond (leb place (length after)) place 0 → WritePromise text out answer after
-  promised place after h answer e = record {
-    answers =
-        e ∙ (λ j. cond (leb (h.goes j) ((ap length h.stands ∙ length-sets out 0 text) j)) (h.goes j) 0) ∙ fitted_place;
-    stands = h.stands ∙ sets_written;
-  }
+  pub promised : Whole before text after → WritePromise text before.room.now after.at room
+  promised h =
+      let e : after.at ≡ length text = omega (arith, h.goes, front) in
+      let fits : length text ≤ length before.room.now = omega (arith, e, after.within, ap length h.stands, length-sets before.room.now before.at text) in
+      record { answers = e ∙ sym (ap (λ t. cond t (length text) 0) (le-leb (length text) (length before.room.now) fits)); stands = from_front h.stands }
+
+  pub promised_cut : Cut before text after → WritePromise text before.room.now 0 room
+  promised_cut h =
+      let over : length before.room.now < length text = omega (arith, h.over, front) in
+      record { answers = sym (ap (λ t. cond t (length text) 0) (lt-leb (length text) (length before.room.now) over)); stands = from_front h.stands }

@@ -1,14 +1,12 @@
 -- Laws of bytes put one after the other into a room that may be too small. Assumes nothing.
-use mathlib.Core.Path.{◌≡◌, refl, sym, ◌∙◌, ap}
-use mathlib.Core.List.{List, [], ◌∷◌, ◌++◌}
-use Prim.Native.Nat.{ℕ, suc, ◌+◌, ◌≤◌, ◌<◌}
-use native.Mathlib.Numerals.{add-one}
-use native.Mathlib.Omega.{arith}
-use lib.ListN.{length, get_or, take, set, length-append}
-use lib.Seq.{sets, length-sets, set_out, take-suc}
-use Rattle.lattice.proofs.Lists.{either}
-use Rattle.lattice.proofs.Places.{lt_or_le}
-use Rattle.csv_text.specs.Written.{Puts}
+use Rattle.std.proofs.Common.{◌≡◌, refl, sym, ◌∙◌, ap, List, [], ◌∷◌, ◌++◌, ℕ, suc, ◌+◌, ◌-◌, ◌≤◌, ◌<◌, length, take, drop, Result, Ok, Err, IsErr, arith, append_assoc, length-append}
+use Rattle.std.proofs.lemmas.Bool.{false≢true}
+use lib.ListN.{set, take-append-drop}
+use lib.Seq.{sets, sets-eq, length-sets, length-take-le, set_out, drop-drop}
+use borrow.Rule.Slice.PartMut.{put_mid}
+use Rattle.csv_text.specs.declared.text.Text.{Text}
+use Rattle.csv_text.specs.declared.text.Full.{Full}
+use Rattle.csv_text.specs.Written.{Whole, Cut, Puts}
 
 -- ---- stores from a place on
 pub sets_append : (l : List ℕ) (i : ℕ) (a b : List ℕ) → sets l i (a ++ b) ≡ sets (sets l i a) (i + length a) b
@@ -21,44 +19,71 @@ pub sets_out : (l : List ℕ) (i : ℕ) (a : List ℕ) → length l ≤ i → se
 sets_out l i [] h = refl
 sets_out l i (v ∷ a) h = ap (λ m. sets m (suc i) a) (set_out l i v h) ∙ sets_out l (suc i) a (omega arith)
 
--- ---- one byte
-pub put_inside : (out : List ℕ) (at b : ℕ) → at < length out → Puts out at (b ∷ []) (at + 1) (set out at b)
-put_inside out at b h = record { goes = omega arith; stands = refl }
+-- of bytes that reach beyond the end, those with a place
+pub sets_cut : (l : List ℕ) (i : ℕ) (a : List ℕ) → i ≤ length l → length l ≤ i + length a → sets l i a ≡ sets l i (take (length l - i) a)
+sets_cut l i a h g =
+    let n = length l - i in
+    let front = take n a in
+    let k : length front ≡ n = length-take-le n a (omega arith) in
+    ap (sets l i) (sym (take-append-drop n a))
+    ∙ sets_append l i front (drop n a)
+    ∙ sets_out (sets l i front) (i + length front) (drop n a) (omega (arith, length-sets l i front))
 
-pub put_outside : (out : List ℕ) (at b : ℕ) → length out ≤ at → at ≤ suc (length out) → Puts out at (b ∷ []) (length out + 1) out
-put_outside out at b h g = record { goes = omega arith; stands = sym (set_out out at b h) }
+-- ---- a part of a room, when it has been written
+part_set : (room : List ℕ) (i k : ℕ) (a : List ℕ) → k ≡ length a → i + k ≤ length room → put_mid i k room a ≡ sets room i a
+part_set room i k a e h =
+    ap (λ l. take i room ++ (a ++ l)) (drop-drop k i room ∙ ap (λ n. drop (i + n) room) e)
+    ∙ sym (append_assoc (take i room) a (drop (i + length a) room))
+    ∙ sym (sets-eq a room i (omega arith))
 
--- ---- nothing, and one text behind another
-pub puts_none : (out : List ℕ) (at : ℕ) → at ≤ suc (length out) → Puts out at [] at out
-puts_none out at h = record { goes = omega arith; stands = refl }
+module _ (room : List ℕ) (i : ℕ) (bytes part : List ℕ) (inside : i ≤ length room) where
+  pub part_whole : (k : ℕ) → part ≡ bytes → k ≡ length bytes → i + k ≤ length room → put_mid i k room part ≡ sets room i bytes
+  part_whole k e f h = ap (put_mid i k room) e ∙ part_set room i k bytes f h
 
-module _ (out : List ℕ) (at : ℕ) (a : List ℕ) (middle : ℕ) (mid : List ℕ) (h : Puts out at a middle mid) where
-  pub puts_length : length mid ≡ length out
-  puts_length = ap length h.stands ∙ length-sets out at a
+  pub part_cut : part ≡ take (length room - i) bytes → length room - i < length bytes → put_mid i (length room - i) room part ≡ sets room i bytes
+  part_cut e h =
+      let n = length room - i in
+      ap (put_mid i n room) e
+      ∙ part_set room i n (take n bytes) (sym (length-take-le n bytes (omega arith))) (omega arith)
+      ∙ sym (sets_cut room i bytes inside (omega arith))
 
-  pub puts_place : middle ≤ suc (length mid)
-  puts_place = omega (arith, h.goes, puts_length)
+-- ---- one text behind another
+module _ {t u : Text} {a : List ℕ} (h : Whole t a u) where
+  length_kept : length u.room.now ≡ length t.room.now
+  length_kept = ap length h.stands ∙ length-sets t.room.now t.at a
 
-  pub puts_append : (b : List ℕ) (place : ℕ) (after : List ℕ) → Puts mid middle b place after → Puts out at (a ++ b) place after
-  puts_append b place after g = record {
-    goes = omega (arith, g.goes, h.goes, puts_length, length-append a b);
-    stands =
-        g.stands ∙ ap (λ l. sets l middle b) h.stands
-        ∙ either (lt_or_le (length out) (at + length a)) beyond within
-        ∙ sym (sets_append out at a b);
+  stands_append : (b room : List ℕ) → room ≡ sets u.room.now u.at b → room ≡ sets t.room.now t.at (a ++ b)
+  stands_append b room e = e ∙ (λ j. sets (h.stands j) (h.goes j) b) ∙ sym (sets_append t.room.now t.at a b)
+
+  pub whole_append : {v : Text} {b : List ℕ} → Whole u b v → Whole t (a ++ b) v
+  whole_append {v} {b} g = record {
+    same = g.same ∙ h.same;
+    stands = stands_append b v.room.now g.stands;
+    goes = omega (arith, g.goes, h.goes, length-append a b);
   }
-    where
-      within : at + length a ≤ length out → sets (sets out at a) middle b ≡ sets (sets out at a) (at + length a) b
-      within k = let e : middle ≡ at + length a = omega (arith, h.goes) in ap (λ n. sets (sets out at a) n b) e
 
-      beyond : length out < at + length a → sets (sets out at a) middle b ≡ sets (sets out at a) (at + length a) b
-      beyond k =
-          let l = length-sets out at a in
-          sets_out (sets out at a) middle b (omega (arith, h.goes, l)) ∙ sym (sets_out (sets out at a) (at + length a) b (omega (arith, l)))
+  pub whole_cut : {v : Text} {b : List ℕ} → Cut u b v → Cut t (a ++ b) v
+  whole_cut {v} {b} g = record {
+    same = g.same ∙ h.same;
+    stands = stands_append b v.room.now g.stands;
+    over = omega (arith, g.over, h.goes, length_kept, length-append a b);
+  }
 
--- ---- a text byte by byte: the first i bytes are put
-pub puts_byte : (out : List ℕ) (at : ℕ) (text : List ℕ) (i middle : ℕ) (mid : List ℕ) → Puts out at (take i text) middle mid → i < length text
-    → (place : ℕ) (after : List ℕ) → Puts mid middle (get_or text i 0 ∷ []) place after → Puts out at (take (i + 1) text) place after
-puts_byte out at text i middle mid h l place after g =
-    let e : take i text ++ get_or text i 0 ∷ [] ≡ take (i + 1) text = rw (add-one, take-suc text i 0) in
-    rw (← e) (puts_append out at (take i text) middle mid h (get_or text i 0 ∷ []) place after g)
+  pub puts_append : (v : Text) (b : List ℕ) (r : Result (Unit {0}) Full) → Puts u b r v → Puts t (a ++ b) r v
+  puts_append v b (Ok _) g = whole_append g
+  puts_append v b (Err _) g = whole_cut g
+
+pub cut_append : {t u : Text} {a : List ℕ} (b : List ℕ) → Cut t a u → Cut t (a ++ b) u
+cut_append {t} {u} {a} b h = record {
+  same = h.same;
+  stands =
+      h.stands
+      ∙ sym (sets_out (sets t.room.now t.at a) (t.at + length a) b (omega (arith, h.over, length-sets t.room.now t.at a)))
+      ∙ sym (sets_append t.room.now t.at a b);
+  over = omega (arith, h.over, length-append a b);
+}
+
+-- ---- what a `?` hands on
+pub puts_failed : {t u : Text} {a : List ℕ} (r : Result (Unit {0}) Full) → IsErr r → Cut t a u → Puts t a r u
+puts_failed (Ok _) f h = absurd (false≢true f)
+puts_failed (Err _) f h = h

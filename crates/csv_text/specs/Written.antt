@@ -1,6 +1,8 @@
 -- What stands in a room after a text is written to it, and what is answered. Assumes nothing.
-use Rattle.std.specs.Prelude.{◌≡◌, cond, List, ◌++◌, ℕ, suc, ◌+◌, min, leb, length, take, drop}
+use Rattle.std.specs.Prelude.{◌≡◌, cond, List, ◌++◌, ℕ, ◌+◌, ◌<◌, leb, length, take, drop, Result, Ok, Err}
 use Rattle.std.proofs.lemmas.List.Edits.{sets}
+use Rattle.csv_text.specs.declared.text.Text.{Text}
+use Rattle.csv_text.specs.declared.text.Full.{Full}
 
 -- the text, the rest as before; of a text that does not fit, what does
 abbrev pub written : List ℕ → List ℕ → List ℕ
@@ -22,7 +24,20 @@ most_missing = 8192
 abbrev pub room : ℕ
 room = 253979
 
--- ---- how the code writes: byte by byte from a place on, which stays one behind the end once that is passed
-pub record Puts (out : List ℕ) (at : ℕ) (text : List ℕ) (place : ℕ) (after : List ℕ) : Type 0 where
-  pub goes : place ≡ min (at + length text) (suc (length out))
-  pub stands : after ≡ sets out at text
+-- ---- how the code writes: each byte at its place, until one has none
+-- the whole text stands from a place on, and the next byte goes behind it
+pub record Whole (before : Text) (bytes : List ℕ) (after : Text) : Type 0 where
+  pub same : after.room.ghost_name ≡ before.room.ghost_name
+  pub stands : after.room.now ≡ sets before.room.now before.at bytes
+  pub goes : after.at ≡ before.at + length bytes
+
+-- the room ends before the text does, and what does not fit is left out
+pub record Cut (before : Text) (bytes : List ℕ) (after : Text) : Type 0 where
+  pub same : after.room.ghost_name ≡ before.room.ghost_name
+  pub stands : after.room.now ≡ sets before.room.now before.at bytes
+  pub over : length before.room.now < before.at + length bytes
+
+-- what is known of either answer
+abbrev pub Puts : Text → List ℕ → Result (Unit {0}) Full → Text → Type 0
+Puts before bytes (Ok _) after = Whole before bytes after
+Puts before bytes (Err _) after = Cut before bytes after

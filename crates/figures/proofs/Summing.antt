@@ -18,19 +18,15 @@ use Rattle.packed.proofs.Small.{within_sum, within_fits}
 use Rattle.packed.proofs.Tests.{read_back}
 use Rattle.figures.specs.Figure.{coordinate, sum, Summable}
 
--- a coordinate of the i-th point as the machine reads it from the list: a signed number, back from its bits
-pub read_coordinate : (list : List ℤ) (i k : ℕ) → i < length (points list) → k < 2 → SFits w32 (get_or list (2 * i + k) (pos 0))
-    → to_z w32 (of_z w32 (get_or list (2 * i + k) (pos 0))) ≡ coordinate k (point (points list) i)
-read_coordinate list i k h l f = read_back (get_or list (2 * i + k) (pos 0)) f ∙ at_place k l
+-- a coordinate of the i-th point, as a number of the list
+number_at : (list : List ℤ) (i k : ℕ) → i < length (points list) → k < 2 → get_or list (2 * i + k) (pos 0) ≡ coordinate k (point (points list) i)
+number_at list i zero h l = let e : 2 * i + 0 ≡ 2 * i = omega arith in
+    ap (λ n. get_or list n (pos 0)) e ∙ ap (λ p. p.x) (sym (points_at list i h))
+number_at list i (suc zero) h l = ap (λ p. p.y) (sym (points_at list i h))
+number_at list i (suc (suc k)) h l = absurd (never k l)
   where
-    at_place : (k : ℕ) → k < 2 → get_or list (2 * i + k) (pos 0) ≡ coordinate k (point (points list) i)
-    at_place zero l = let e : 2 * i + 0 ≡ 2 * i = omega arith in
-        ap (λ n. get_or list n (pos 0)) e ∙ ap (λ p. p.x) (sym (points_at list i h))
-    at_place (suc zero) l = ap (λ p. p.y) (sym (points_at list i h))
-    at_place (suc (suc k)) l = absurd (never k l)
-      where
-        never : (k : ℕ) → suc (suc k) < 2 → ⊥
-        never k l = omega arith
+    never : (k : ℕ) → suc (suc k) < 2 → ⊥
+    never k l = omega arith
 
 -- a coordinate in range is at most 8,192 by magnitude
 coordinate_within : (k : ℕ) (p : Point) → InRange p → Within offset (coordinate k p)
@@ -48,6 +44,14 @@ sum_within k (p ∷ s) r =
 
 pub sum_fits : (k : ℕ) (s : List Point) → All InRange s → length s ≤ most → SFits w32 (sum (coordinate k) s)
 sum_fits k s r few = within_fits w32 (offset * length s) (sum_within k s r) (omega arith)
+
+-- as the machine reads it: a signed number, back from its bits
+pub read_coordinate : (k : ℕ) (list : List ℤ) → Summable list → k < 2 → (i : ℕ) → i < length (points list)
+    → to_z w32 (of_z w32 (get_or list (2 * i + k) (pos 0))) ≡ coordinate k (point (points list) i)
+read_coordinate k list s h i l =
+    let e = number_at list i k l h in
+    let small = coordinate_within k (point (points list) i) (all_place InRange (points list) s.range i l) in
+    read_back (get_or list (2 * i + k) (pos 0)) (subst (SFits w32) (sym e) (within_fits w32 offset small (omega arith))) ∙ e
 
 -- the coordinates of the first i points are summed
 pub record Summed (k : ℕ) (s : List Point) (i : ℕ) (total : ℤ) : Type 0 where

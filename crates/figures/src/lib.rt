@@ -14,7 +14,8 @@ pub struct Centroid {
     pub y: f64,
 }
 
-// What Figures answers: a refusal, none for the empty list, or the doubles.
+// What Figures answers: a refusal, none for the empty list, or the doubles. Not a Result of an Option: document 01 names this form, "an enum
+// whose accepted case carries the centroid and the solidity double".
 #[derive(Clone, Copy)]
 pub enum Figured {
     Refused { number: u32, place: usize },
@@ -28,10 +29,8 @@ fn sum(list: &[i32], coordinate: usize) -> i32
     ensures { result ≡ sum_of (coordinate_of coordinate) (points list.now) }
 {
     let mut total: i32 = 0;
-    let mut i: usize = 0;
-    while i < list.len() / 2 {
+    for i in 0..list.len() / 2 {
         total += list[2 * i + coordinate];
-        i += 1;
     }
     total
 }
@@ -78,19 +77,15 @@ fn solidity_of(list: &[i32], corners: &[i32]) -> f64
 pub fn figures(list: &[i32], ordered: &mut [i32], corners: &mut [i32]) -> Figured
     ensures { FiguresPromise list.now ordered.old corners.old result ordered.new corners.new }
 {
-    let found = hull::hull(list, ordered, corners);
-    let number = found.number;
-    let place = found.place;
-    let n = found.points;
-    let count = found.corners;
-    if number != 0 {
-        return Figured::Refused { number, place };
-    }
-    if n == 0 {
-        return Figured::None;
-    }
-    Figured::Given {
-        centroid: centroid_of(list),
-        solidity: solidity_of(list, &corners[..2 * count]),
+    match hull::hull(list, ordered, corners) {
+        Err(refusal) => Figured::Refused {
+            number: refusal.number(),
+            place: refusal.place(),
+        },
+        Ok(counts) if counts.points == 0 => Figured::None,
+        Ok(counts) => Figured::Given {
+            centroid: centroid_of(list),
+            solidity: solidity_of(list, &corners[..2 * counts.corners]),
+        },
     }
 }

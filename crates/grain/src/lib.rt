@@ -2,12 +2,14 @@
 // `grain_c`, one for one.
 #![tactic(auto)]
 
-pub use bitmap::{Picture, read as read_picture};
+pub use bitmap::{Image, Picture, read as read_picture};
 pub use csv_text::{refused as write_refused, write as write_report};
 pub use figures::{Centroid, Figured, figures};
-pub use hull::{Hulled, hull};
+pub use hull::{Counts, Hulled, hull};
+pub use lattice::Point;
 pub use order::{Ordered, order};
 pub use picture::respond;
 pub use rebuild::{Rebuilt, rebuild};
-pub use report::{Judged, Reported, report, verdict};
+pub use refusal::Refusal;
+pub use report::{Findings, Judged, Judgement, Reported, report, verdict};
 pub use rows::{Ends, row, row_ends};

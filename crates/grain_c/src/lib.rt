@@ -1,7 +1,8 @@
 // The calls for other languages: include/grain.h declares them for C. Each list is a pointer and a length, each answer a struct as C lays
-// it out. Each call promises what the call of the same name promises, and asks for nothing.
+// it out, with document 01's number and place of a refusal. Each call promises what the call of the same name promises, and asks for nothing.
 #![tactic(auto)]
 
+ghost use Rattle.std.specs.Prelude.{◌≡◌};
 ghost use Rattle.order.specs.Order.{OrderPromise};
 ghost use Rattle.rows.specs.Row.{RowEndsPromise};
 ghost use Rattle.hull.specs.Hull.{HullPromise};
@@ -11,7 +12,7 @@ ghost use Rattle.bitmap.specs.Picture.{PicturePromise};
 ghost use Rattle.csv_text.specs.Text.{report_text, refused_text};
 ghost use Rattle.csv_text.specs.Written.{WritePromise};
 ghost use Rattle.picture.specs.Response.{ResponsePromise};
-ghost use Rattle.grain_c.specs.Block.{FiguresBlockPromise};
+ghost use Rattle.grain_c.specs.Block.{block_of, FiguresBlockPromise};
 
 use bitmap::Picture;
 use figures::Figured;
@@ -33,11 +34,44 @@ pub struct Figures {
     pub solidity: f64,
 }
 
+impl From<Figured> for Figures {
+    ghost from_gives = { λ answer block. block ≡ block_of answer };
+
+    fn from(answer: Figured) -> Figures {
+        match answer {
+            Figured::Refused { number, place } => Figures {
+                number,
+                given: 0,
+                place,
+                x: 0.0,
+                y: 0.0,
+                solidity: 0.0,
+            },
+            Figured::None => Figures {
+                number: 0,
+                given: 0,
+                place: 0,
+                x: 0.0,
+                y: 0.0,
+                solidity: 0.0,
+            },
+            Figured::Given { centroid, solidity } => Figures {
+                number: 0,
+                given: 1,
+                place: 0,
+                x: centroid.x,
+                y: centroid.y,
+                solidity,
+            },
+        }
+    }
+}
+
 #[unsafe(no_mangle)]
 pub extern "C" fn grain_order(list: &[i32], room: &mut [i32]) -> Ordered
     ensures { OrderPromise list.now room.old result room.new }
 {
-    order::order(list, room)
+    order::order(list, room).into()
 }
 
 // Row hands back a part of the list; for other languages its two ends are what tells it.
@@ -52,14 +86,14 @@ pub extern "C" fn grain_row_ends(list: &[i32], y: i32) -> Ends
 pub extern "C" fn grain_hull(list: &[i32], ordered: &mut [i32], corners: &mut [i32]) -> Hulled
     ensures { HullPromise list.now ordered.old corners.old result ordered.new corners.new }
 {
-    hull::hull(list, ordered, corners)
+    hull::hull(list, ordered, corners).into()
 }
 
 #[unsafe(no_mangle)]
 pub extern "C" fn grain_verdict(list: &[i32], ordered: &mut [i32], corners: &mut [i32]) -> Judged
     ensures { VerdictPromise list.now ordered.old corners.old result ordered.new corners.new }
 {
-    report::verdict(list, ordered, corners)
+    report::verdict(list, ordered, corners).into()
 }
 
 #[unsafe(no_mangle)]
@@ -71,53 +105,28 @@ pub extern "C" fn grain_report(
 ) -> Reported
     ensures { ReportPromise list.now ordered.old corners.old missing.old result ordered.new corners.new missing.new }
 {
-    report::report(list, ordered, corners, missing)
+    report::report(list, ordered, corners, missing).into()
 }
 
 #[unsafe(no_mangle)]
 pub extern "C" fn grain_rebuild(corners: &[i32], missing: &[i32], room: &mut [i32]) -> Rebuilt
     ensures { RebuildPromise corners.now missing.now room.old result room.new }
 {
-    rebuild::rebuild(corners, missing, room)
+    rebuild::rebuild(corners, missing, room).into()
 }
 
 #[unsafe(no_mangle)]
 pub extern "C" fn grain_figures(list: &[i32], ordered: &mut [i32], corners: &mut [i32]) -> Figures
     ensures { FiguresBlockPromise list.now ordered.old corners.old result ordered.new corners.new }
 {
-    match figures::figures(list, ordered, corners) {
-        Figured::Refused { number, place } => Figures {
-            number,
-            given: 0,
-            place,
-            x: 0.0,
-            y: 0.0,
-            solidity: 0.0,
-        },
-        Figured::None => Figures {
-            number: 0,
-            given: 0,
-            place: 0,
-            x: 0.0,
-            y: 0.0,
-            solidity: 0.0,
-        },
-        Figured::Given { centroid, solidity } => Figures {
-            number: 0,
-            given: 1,
-            place: 0,
-            x: centroid.x,
-            y: centroid.y,
-            solidity,
-        },
-    }
+    figures::figures(list, ordered, corners).into()
 }
 
 #[unsafe(no_mangle)]
 pub extern "C" fn grain_read_picture(bytes: &[u8], list: &mut [i32; bitmap::ROOM]) -> Picture
     ensures { PicturePromise bytes.now list.old result list.new }
 {
-    bitmap::read(bytes, list)
+    bitmap::read(bytes, list).into()
 }
 
 #[unsafe(no_mangle)]

@@ -6,10 +6,10 @@ use Prim.Native.Nat.{ℕ, suc, ◌+◌, ◌*◌, ◌-◌, ◌≤◌, ◌<◌, mi
 use native.Mathlib.Omega.{arith}
 use borrow.Author.Tests.{eqb-true, eqb-false}
 use lib.Dec.{eqb}
-use lib.ListN.{length, get_or, drop}
+use lib.ListN.{length, get_or, take, drop}
+use Rattle.std.proofs.lemmas.List.{take_rest, get_or-drop}
 use Rattle.header.specs.Bytes.{line_end, hash, digit, Placed, read_in, placed_at_read}
 use Rattle.header.specs.Header.{starts, behind, decimal, size as size_of, greatest_size}
-use Rattle.header.specs.Steps.{RunAt}
 use Rattle.header.proofs.Reading.{read_byte, comment_begins}
 use Rattle.header.proofs.Tests.{is_digit, line_end_no_digit, ends_of}
 use Rattle.header.proofs.Parts.{behind_stops, behind_goes, starts_byte}
@@ -58,9 +58,6 @@ pub record Sizing (bytes : List ℕ) (at size i : ℕ) : Type 0 where
   pub reads : behind digit (placed_at_read bytes at) ≡ behind digit (placed_at_read bytes i)
   pub inside : i ≤ length bytes
 
-pub sizing_begins : (bytes : List ℕ) (at : ℕ) → at ≤ length bytes → Sizing bytes at 0 at
-sizing_begins bytes at h = record { value = refl; small = omega arith; reads = refl; inside = h }
-
 module _ (bytes : List ℕ) (at size i : ℕ) (h : Sizing bytes at size i) where
   pub sizing_more : i < length bytes → 48 ≤ get_or bytes i 0 → get_or bytes i 0 ≤ 57
       → (r : ℕ) → r ≡ min limit (10 * size + (get_or bytes i 0 - 48)) → Sizing bytes at r (i + 1)
@@ -78,11 +75,11 @@ module _ (bytes : List ℕ) (at size i : ℕ) (h : Sizing bytes at size i) where
         inside = omega arith;
       }
 
-  pub sizing_ends : starts digit (placed_at_read bytes i) ≡ false → RunAt bytes at (record { size = size; end = i })
+  pub sizing_ends : starts digit (placed_at_read bytes i) ≡ false
+      → (size ≡ min limit (size_of (placed_at_read bytes at))) × (behind digit (placed_at_read bytes at) ≡ placed_at_read bytes i)
   sizing_ends e =
-      let stops = decimal_stops size (placed_at_read bytes i) e in
-      record {
-        size = omega (arith, h.value, h.small, stops);
-        reads = h.reads ∙ behind_stops digit (placed_at_read bytes i) e;
-        inside = h.inside;
-      }
+      (omega (arith, h.value, h.small, decimal_stops size (placed_at_read bytes i) e), h.reads ∙ behind_stops digit (placed_at_read bytes i) e)
+
+-- the byte that stands at place i behind a place, in what is left of the file there
+pub byte_behind : (bytes : List ℕ) (at i : ℕ) → get_or (take (length bytes - at) (drop at bytes)) i 0 ≡ get_or bytes (at + i) 0
+byte_behind bytes at i = ap (λ l. get_or l i 0) (take_rest bytes at) ∙ get_or-drop at bytes i 0

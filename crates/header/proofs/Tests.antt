@@ -5,23 +5,16 @@ use mathlib.Core.Logic.{◌⊎◌, inl, inr}
 use Prim.Native.Nat.{ℕ, ◌≤◌, ◌<◌}
 use native.Mathlib.Omega.{arith}
 use lib.Dec.{eqb}
-use borrow.Author.Tests.{eqb-true, ne_eqb, le-leb, lt-leb}
+use borrow.Author.Tests.{eqb-true, le-leb, lt-leb}
 use Rattle.header.specs.Bytes.{line_end, hash, digit}
 
 -- LF or CR
 abbrev pub Ends : ℕ → Type 0
 Ends b = (b ≡ 10) ⊎ (b ≡ 13)
 
-pub line_end_lem : (b : ℕ) → Ends b → line_end b ≡ true
-line_end_lem b (inl e) = rw e
-line_end_lem b (inr e) = rw e
-
 pub line_end_no_hash : (b : ℕ) → Ends b → b ≡ hash → ⊥
 line_end_no_hash b (inl e) h = omega arith
 line_end_no_hash b (inr e) h = omega arith
-
-pub not_line_end : (b : ℕ) → (b ≡ 10 → ⊥) → (b ≡ 13 → ⊥) → line_end b ≡ false
-not_line_end b n m = rw (ne_eqb b 10 n, ne_eqb b 13 m)
 
 pub ends_of : (b : ℕ) → line_end b ≡ true → Ends b
 ends_of b e = by_test (eqb b 10) refl e

@@ -1,188 +1,129 @@
 // The header of a bitmap: width and height, and where the pixels begin.
 #![tactic(auto)]
 
-ghost use Rattle.std.specs.Prelude.{◌≡◌, true, ◌+◌, ◌*◌, ◌-◌, ◌≤◌, suc, min, length, drop};
-ghost use Rattle.netpbm.specs.Space.{white_space};
-ghost use Rattle.header.specs.Bytes.{read_in, placed_at_read};
-ghost use Rattle.header.specs.Header.{starts, behind, in_size, greatest_size, after_height, after_width, header_of};
-ghost use Rattle.header.specs.Steps.{Settled, Leads, RunAt, Sized};
+ghost use Rattle.std.specs.Prelude.{◌≡◌, ◌≤◌, length};
+ghost use Rattle.header.specs.Header.{header_of};
+
+use refusal::Refusal;
 
 // The greatest width and height.
 const GREATEST_SIZE: usize = 1024;
 
-// A header: width, height and the place behind it; or the place where it breaks.
+// What a header says: width and height, and the place behind it.
 #[derive(Clone, Copy)]
-pub enum Header {
-    Sound {
-        width: usize,
-        height: usize,
-        at: usize,
-    },
-    Bad(usize),
+pub struct Header {
+    pub width: usize,
+    pub height: usize,
+    pub at: usize,
 }
 
-// A size, one above the greatest for any that is greater, and where its digits end.
+// The bytes of a file, read up to a place.
 #[derive(Drop)]
-struct Run {
-    size: usize,
-    end: usize,
+struct Reader<'a> {
+    bytes: &'a [u8],
+    at: usize,
+    ghost inside: { at ≤ length bytes.now },
 }
 
-// A size and the place behind it; or the place where the header breaks.
-#[derive(Drop)]
-enum Part {
-    Size(usize, usize),
-    Bad(usize),
-}
+impl Reader<'_> {
+    ghost use Rattle.netpbm.specs.Space.{white_space};
+    ghost use Rattle.header.specs.Header.{starts, behind};
+    ghost use Rattle.header.specs.Steps.{comment_left, left, Leads, RunAt, Sized, Ended};
 
-// Where the comment that reaches to `at` ends: its line end, or the end of the file.
-fn line_end(bytes: &[u8], at: usize) -> usize
-    requires { at ≤ length bytes.now }
-    ensures { Leads bytes.now (read_in true (drop at bytes.now) at) at result }
-{
-    let mut i = at;
-    while i < bytes.len() {
-        let b = bytes[i];
-        if b == b'\n' {
-            break;
-        }
-        if b == b'\r' {
-            break;
-        }
-        i += 1;
+    // Passes what is left of a comment, up to its line end or the end of the file.
+    fn pass_comment(&mut self)
+        ensures { Leads (comment_left self.old) self.old self.new }
+    {
+        let rest = &self.bytes[self.at..];
+        self.at += rest
+            .iter()
+            .position(|b| matches!(b, b'\n' | b'\r'))
+            .unwrap_or(rest.len());
     }
-    i
-}
 
-// The place of the byte that is read at `at`: a comment is read as its line end.
-fn next(bytes: &[u8], at: usize) -> usize
-    requires { at ≤ length bytes.now }
-    ensures { Leads bytes.now (placed_at_read bytes.now at) at result }
-{
-    if at < bytes.len() {
-        if bytes[at] == b'#' {
-            return line_end(bytes, at + 1);
+    // Goes to the byte that is read next: a comment is read as its line end.
+    fn settle(&mut self)
+        ensures { Leads (left self.old) self.old self.new }
+    {
+        if self.bytes.get(self.at) == Some(&b'#') {
+            self.at += 1;
+            self.pass_comment();
         }
     }
-    at
-}
 
-// Whether white space is read at a place.
-fn white_at(bytes: &[u8], at: usize) -> bool
-    requires { Settled bytes.now at }
-    ensures { result ≡ starts white_space (placed_at_read bytes.now at) }
-{
-    if at < bytes.len() {
-        return netpbm::white_space(bytes[at]);
+    // Goes to the byte that is read next: whether it is white space.
+    fn at_white(&mut self) -> bool
+        ensures leads { Leads (left self.old) self.old self.new }
+        ensures white { result ≡ starts white_space (left self.new) }
+    {
+        self.settle();
+        self.bytes
+            .get(self.at)
+            .is_some_and(|b| netpbm::white_space(*b))
     }
-    false
-}
 
-// The place behind all white space that is read from `at` on.
-fn skip(bytes: &[u8], at: usize) -> usize
-    requires { at ≤ length bytes.now }
-    ensures { Leads bytes.now (behind white_space (placed_at_read bytes.now at)) at result }
-{
-    let mut i = next(bytes, at);
-    while white_at(bytes, i) {
-        i = next(bytes, i + 1);
-    }
-    i
-}
-
-// A digit more, as far as that matters.
-fn longer(size: usize, b: u8) -> usize
-    requires { (size ≤ suc greatest_size) × (48 ≤ b) × (b ≤ 57) }
-    ensures { result ≡ min (suc greatest_size) (10 * size + (b - 48)) }
-{
-    let n = 10 * size + (b - b'0') as usize;
-    if GREATEST_SIZE < n {
-        return GREATEST_SIZE + 1;
-    }
-    n
-}
-
-// The size whose digits are read from `at` on.
-fn size_at(bytes: &[u8], at: usize) -> Run
-    requires { at ≤ length bytes.now }
-    ensures { RunAt bytes.now at result }
-{
-    let mut size: usize = 0;
-    let mut i = at;
-    while i < bytes.len() {
-        let b = bytes[i];
-        if b < b'0' {
-            break;
+    // Passes all white space that is read from here on.
+    fn skip(&mut self)
+        ensures { Leads (behind white_space (left self.old)) self.old self.new }
+    {
+        while self.at_white() {
+            self.at += 1;
         }
-        if b'9' < b {
-            break;
+    }
+
+    // The size whose digits are read from here on, one above the greatest for any that is greater.
+    fn digits(&mut self) -> usize
+        ensures { RunAt self.old result self.new }
+    {
+        let mut size = 0;
+        let rest = &self.bytes[self.at..];
+        for b in rest {
+            if !b.is_ascii_digit() {
+                break;
+            }
+            size = (10 * size + usize::from(*b - b'0')).min(GREATEST_SIZE + 1);
+            self.at += 1;
         }
-        size = longer(size, b);
-        i += 1;
+        size
     }
-    Run { size, end: i }
-}
 
-fn in_size(n: usize) -> bool
-    ensures { result ≡ in_size n }
-{
-    if n < 1 {
-        return false;
-    }
-    n <= GREATEST_SIZE
-}
-
-// White space and a size.
-fn sized(bytes: &[u8], at: usize) -> Part
-    requires { at ≤ length bytes.now }
-    ensures { Sized bytes.now at result }
-{
-    let gap = next(bytes, at);
-    if white_at(bytes, gap) {
-        let start = skip(bytes, gap);
-        let run = size_at(bytes, start);
-        if in_size(run.size) {
-            return Part::Size(run.size, run.end);
+    // White space and a size.
+    fn size(&mut self) -> Result<usize, Refusal>
+        ensures { Sized self.old result self.new }
+    {
+        if !self.at_white() {
+            return Err(Refusal::BadHeader(self.at));
         }
-        return Part::Bad(start);
+        self.skip();
+        let start = self.at;
+        let size = self.digits();
+        if (1..=GREATEST_SIZE).contains(&size) {
+            Ok(size)
+        } else {
+            Err(Refusal::BadHeader(start))
+        }
     }
-    Part::Bad(gap)
-}
 
-// What ends a header behind its height.
-fn after_height(bytes: &[u8], at: usize, width: usize, height: usize) -> Header
-    requires { at ≤ length bytes.now }
-    ensures { result ≡ after_height bytes.now width height (placed_at_read bytes.now at) }
-{
-    let end = next(bytes, at);
-    if white_at(bytes, end) {
-        return Header::Sound {
-            width,
-            height,
-            at: end + 1,
-        };
-    }
-    Header::Bad(end)
-}
-
-// The header behind its width.
-fn after_width(bytes: &[u8], at: usize, width: usize) -> Header
-    requires { at ≤ length bytes.now }
-    ensures { result ≡ after_width bytes.now width (placed_at_read bytes.now at) }
-{
-    match sized(bytes, at) {
-        Part::Size(height, end) => after_height(bytes, end, width, height),
-        Part::Bad(place) => Header::Bad(place),
+    // One white space, which ends the header: the place behind it.
+    fn end(mut self) -> Result<usize, Refusal>
+        ensures { Ended self.entry result }
+    {
+        if self.at_white() {
+            Ok(self.at + 1)
+        } else {
+            Err(Refusal::BadHeader(self.at))
+        }
     }
 }
 
 // The header behind its two first bytes.
-pub fn check(bytes: &[u8]) -> Header
+pub fn check(bytes: &[u8]) -> Result<Header, Refusal>
     requires { 2 ≤ length bytes.now }
     ensures { result ≡ header_of bytes.now }
 {
-    match sized(bytes, 2) {
-        Part::Size(width, end) => after_width(bytes, end, width),
-        Part::Bad(place) => Header::Bad(place),
-    }
+    let mut reader = Reader { bytes, at: 2 };
+    let width = reader.size()?;
+    let height = reader.size()?;
+    let at = reader.end()?;
+    Ok(Header { width, height, at })
 }

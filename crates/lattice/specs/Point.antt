@@ -1,11 +1,11 @@
 -- Points, lists of numbers read as points, the range, row order (document 01, "Lattice, order and hull").
 -- Assumes nothing.
+use Rattle.lattice.specs.declared.Point.{Point as Pair}
 use Rattle.std.specs.Prelude.{◌≡◌, ◌⊎◌, List, [], ◌∷◌, ℕ, get_or, ℤ, pos, negsuc, ◌≤ℤ◌, ◌<ℤ◌}
 
 -- "A point is a pair of signed 32-bit whole numbers, x then y"
-pub record Point : Type 0 where
-  pub x : ℤ
-  pub y : ℤ
+abbrev pub Point : Type 0
+Point = Pair
 
 abbrev pub origin : Point
 origin = record { x = pos 0; y = pos 0 }

@@ -1,3 +1,9 @@
+// The lattice: a point of it, definitions and theory. specs/ is what a reader must believe.
 #![tactic(auto)]
 
-// The lattice: definitions and theory so far. specs/ is what a reader must believe.
+// "A point is a pair of signed 32-bit whole numbers, x then y".
+#[derive(Clone, Copy, Debug, PartialEq, Eq)]
+pub struct Point {
+    pub x: i32,
+    pub y: i32,
+}

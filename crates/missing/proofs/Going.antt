@@ -1,44 +1,38 @@
--- Laws of a loop that looks from one place to another for the first with a fault, where one of the two has one. Assumes nothing.
-use mathlib.Core.Path.{◌≡◌, subst}
-use mathlib.Core.Logic.{◌⊎◌}
-use Prim.Native.Nat.{ℕ, ◌+◌, ◌≤◌, ◌<◌}
+-- The first with a fault of a part of the places, and of all behind those that passed. Assumes nothing.
+use mathlib.Core.Path.{◌≡◌, refl, sym, subst}
+use Prim.Native.Nat.{ℕ, ◌-◌, ◌≤◌, ◌<◌}
 use native.Mathlib.Omega.{arith}
-use borrow.Author.Count.{below_more}
+use borrow.Author.Tests.{ltb-true, ltb-false}
+use lib.Dec.{ltb}
+use lib.IntN.{ℤ}
+use mathlib.Core.Bool.{Bool, true, false}
+use mathlib.Core.List.{List}
 use Rattle.lattice.proofs.Lists.{either}
 use Rattle.lattice.proofs.Places.{lt_or_le}
-use Rattle.range.specs.First.{FirstBelow}
+use Rattle.packed.specs.Packed.{Tells}
+use Rattle.std.specs.Bool.{then_some}
+use Rattle.range.specs.First.{FirstBelow, Found}
 use Rattle.range.proofs.Passing.{Passing}
-use Rattle.missing.specs.Missing.{FirstFrom}
+use Rattle.std.specs.Prelude.{Option, Some, None, MatchOption}
+use Rattle.missing.specs.Missing.{FirstFrom, MisplacedAt, EndMisplaced}
 
--- no fault from `begin` to i
-pub record Going (begin last : ℕ) (P : ℕ → Type 0) (i : ℕ) : Type 0 where
-  pub from : begin ≤ i
-  pub to : i ≤ last
-  pub clear : (j : ℕ) → begin ≤ j → j < i → P j → ⊥
+-- what a closure's answer tells
+pub told_yes : (P : Type 0) (b : Bool) → Tells b P → true ≡ b → P
+told_yes P true h e = h
+told_yes P false h e = cc
 
-module _ (begin last : ℕ) (P : ℕ → Type 0) where
-  pub going_none : begin ≤ last → Going begin last P begin
-  going_none l = record { from = omega arith; to = l; clear = λ j u v. absurd (omega arith) }
+pub told_no : (P : Type 0) (b : Bool) → Tells b P → false ≡ b → P → ⊥
+told_no P true h e = cc
+told_no P false h e = h
 
-  module _ (i : ℕ) (h : Going begin last P i) where
-    pub going_more : i < last → (P i → ⊥) → Going begin last P (i + 1)
-    going_more l c = record {
-      from = omega (arith, h.from);
-      to = omega arith;
-      clear = λ j u v. below_more (λ n. begin ≤ n → P n → ⊥) i (λ n a b. h.clear n b a) (λ _. c) j v u;
-    }
-
-    pub going_stops : P i → FirstFrom begin P i
-    going_stops p = record { from = h.from; earlier = h.clear; here = p }
-
-    pub going_ends : last ≤ i → P begin ⊎ P last → FirstFrom begin P i
-    going_ends l p = record { from = h.from; earlier = h.clear; here = either p at_begin at_last }
-      where
-        at_begin : P begin → P i
-        at_begin q = either (lt_or_le begin i) (λ u. absurd (h.clear begin (omega arith) u q)) (λ u. let e : begin ≡ i = omega (arith, h.from) in subst P e q)
-
-        at_last : P last → P i
-        at_last q = let e : last ≡ i = omega (arith, h.to) in subst P e q
+-- the first of a row's points that is misplaced, or none, as `find` gives it, where the first or the last is
+pub end_found : (corners missing : List ℤ) (begin end : ℕ) → EndMisplaced corners missing begin end → (r : Option ℕ)
+    → MatchOption r ((k : ℕ) → begin ≤ k → k < end → MisplacedAt corners missing k → ⊥)
+    (λ i. (begin ≤ i) × (i < end) × MisplacedAt corners missing i × ((k : ℕ) → begin ≤ k → k < i → MisplacedAt corners missing k → ⊥))
+    → MatchOption r (EndMisplaced corners missing begin end → ⊥) (FirstFrom begin (MisplacedAt corners missing))
+end_found corners missing begin end e None f =
+    λ _. either e.which (f begin (omega arith) e.some) (f (end - 1) (omega (arith, e.some)) (omega (arith, e.some)))
+end_found corners missing begin end e (Some i) f = record { from = f.0; earlier = f.3; here = f.2 }
 
 -- behind the first i places, the first fault from there on
 pub passing_then : (n : ℕ) (P : ℕ → Type 0) (i : ℕ) → Passing n P i → (r : ℕ) → r < n → FirstFrom i P r → FirstBelow n P r
@@ -47,3 +41,15 @@ passing_then n P i h r l f = record {
   earlier = λ j k. either (lt_or_le j i) (λ u. h.clear j u) (λ u. f.earlier j u k);
   here = λ k. f.here;
 }
+
+-- a first fault that is no fault below n: there is none
+pub first_none : (n : ℕ) (P : ℕ → Type 0) (r : ℕ) → FirstBelow n P r → n ≤ r → FirstBelow n P n
+first_none n P r f l = let e : r ≡ n = omega (arith, f.upto) in subst (FirstBelow n P) e f
+
+-- the place of the first fault where it is below n, and else none
+pub place_found : (n : ℕ) (P : ℕ → Type 0) (r m : ℕ) → FirstBelow n P r → m ≡ n → (o : Option ℕ) → o ≡ then_some (ltb r m) r → Found (FirstBelow n P) n o
+place_found n P r m f e o g = subst (Found (FirstBelow n P) n) (sym g) (by_test (ltb r m) refl)
+  where
+    by_test : (t : Bool) → ltb r m ≡ t → Found (FirstBelow n P) n (then_some t r)
+    by_test true t = (omega (arith, e, ltb-true r m t), f)
+    by_test false t = first_none n P r f (omega (arith, e, ltb-false r m t))

@@ -1,29 +1,32 @@
 -- Which packed points are corners, which rows have no point of the hull, which points of a row are misplaced. Assumes nothing.
 use mathlib.Core.Path.{◌≡◌, refl, sym, ◌∙◌, ap, subst}
 use mathlib.Core.Logic.{◌⊎◌, inl, inr}
-use mathlib.Core.Bool.{Bool, true, false}
+use mathlib.Core.Bool.{Bool}
 use mathlib.Core.List.{List, [], ◌∷◌}
 use Prim.Native.Nat.{ℕ, ◌+◌, ◌-◌, ◌/◌, ◌%◌, ◌≤◌, ◌<◌}
 use native.Mathlib.Omega.{arith}
-use borrow.Author.Tests.{eqb-true, eqb-false}
-use lib.Dec.{eqb}
 use lib.ListN.{length}
-use lib.IntN.{ℤ}
+use lib.IntN.{ℤ, pos, negsuc}
 use lib.Signed.{◌≤ℤ◌, ◌<ℤ◌}
 use Rattle.whole.proofs.Whole.{quote, gap≤, gap<, ◌⊞◌, linear⊥, le_or_lt, antisymmetric}
-use Rattle.lattice.specs.Point.{Point, InRange, points, point, In, All, Pairs, Before}
+use Rattle.lattice.specs.Point.{Point, least, greatest, InRange, points, point, In, All, Pairs, Before}
 use Rattle.lattice.specs.Hull.{InHull, member, Of}
 use Rattle.lattice.specs.Refusal.{AtPoint, Misplaced}
 use Rattle.lattice.proofs.Lists.{either}
-use Rattle.lattice.proofs.Places.{lt_or_le, nowhere, place_in, in_place, all_place, pairs_place}
+use Rattle.lattice.proofs.Places.{lt_or_le, nowhere, all_place, pairs_place}
 use Rattle.lattice.proofs.RowEnds.{inner_of_row_no_corner}
 use Rattle.lattice.proofs.Sandwich.{Spans, corner_list_of_spanned}
 use Rattle.lattice.proofs.CornerLists.{corner_list_shape}
 use Rattle.packed.specs.Packed.{Tells, side, moved, placed, packed, unpacked}
-use Rattle.packed.specs.Corners.{keys_of, Outline}
 use Rattle.packed.proofs.Border.{moved_small}
-use Rattle.packed.proofs.RowOrder.{placed_grows, placed_injective, unpacked_injective, unpacked_packed, before_packed}
+use Rattle.packed.specs.Corners.{keys_of, Outline}
+use Rattle.packed.proofs.RowOrder.{placed_grows, placed_injective, unpacked_packed, before_packed}
+use Rattle.packed.proofs.Reading.{column_read, row_at, read_at, read_point}
 use Rattle.packed.proofs.Tests.{tells_as}
+use Rattle.lattice.proofs.Numbers.{points_at}
+use Rattle.std.proofs.lemmas.Int.{ints}
+use mir.Syntax.{w32}
+use mir.Val.{SFits}
 use Rattle.rows.specs.Row.{RunsTo}
 use Rattle.range.proofs.Passing.{Passing, passing_none, passing_stops, passing_ends}
 use Rattle.stretch.specs.Stretch.{cell, Within, Peak, StretchOf, first_row, last_row}
@@ -32,31 +35,18 @@ use Rattle.stretch.proofs.Counting.{is_cell_before, is_before_cell}
 use Rattle.walk.proofs.Walking.{nothing, some, in_rows}
 use Rattle.walk.proofs.Rows.{rows_rise, from_next}
 use Rattle.walk.proofs.Loops.{Between, between_first, between_next}
-use Rattle.missing.specs.Missing.{MisplacedAt, FirstMisplaced, Apart, InOneRow, EndMisplaced}
-use Rattle.missing.proofs.Seeking.{apart_at}
+use Rattle.missing.specs.Missing.{MisplacedAt, FirstMisplaced, InOneRow, EndMisplaced}
 
--- ---- a packed point by its row and its column
-pub same_column : (p : Point) (k r c : ℕ) → r ≡ moved p.y → c ≡ moved p.x → c < side → r ≡ k / side → Tells (eqb c (k % side)) (packed p ≡ k)
-same_column p k r c e f l d = by_test (eqb c (k % side)) refl
-  where
-    by_test : (t : Bool) → eqb c (k % side) ≡ t → Tells t (packed p ≡ k)
-    by_test true g = omega (arith, eqb-true c (k % side) g, e, f, d)
-    by_test false g = λ h. eqb-false c (k % side) g (omega (arith, h, e, f, l, d))
+-- ---- a point of a list as the machine reads it
+in_range_fits : (z : ℤ) → least ≤ℤ z → z ≤ℤ greatest → SFits w32 z
+in_range_fits (pos n) f t = record { sfits = omega (arith, ints, f, t) }
+in_range_fits (negsuc n) f t = record { sfits = omega (arith, ints, f, t) }
 
-pub other_row : (p : Point) → InRange p → (k r : ℕ) → r ≡ moved p.y → (r ≡ k / side → ⊥) → packed p ≡ k → ⊥
-other_row p range k r e n h = n (omega (arith, h, e, moved_small p.x range.x_from range.x_to))
-
--- ---- a corner
-module _ (c : List Point) (range : All InRange c) (k i : ℕ) where
-  pub corner_here : i < length c → packed (point c i) ≡ k → In (unpacked k) c
-  corner_here l e =
-      subst (λ p. In p c) (sym (unpacked_packed (point c i) (all_place InRange c range i l)) ∙ ap unpacked e) (place_in c i l)
-
-  pub no_corner : Passing (length c) (λ j. packed (point c j) ≡ k) i → length c ≤ i → In (unpacked k) c → ⊥
-  no_corner h l m =
-      let r = in_place c (unpacked k) m in
-      h.clear r.0 (omega (arith, r.1))
-      (unpacked_injective (packed (point c r.0)) k (unpacked_packed (point c r.0) (all_place InRange c range r.0 r.1) ∙ sym r.2))
+pub as_read : (list : List ℤ) (i : ℕ) → i < length (points list) → InRange (point (points list) i) → read_at list i ≡ point (points list) i
+as_read list i h r =
+    let e = points_at list i h in
+    read_point list i (in_range_fits (column_read list i) (subst (λ p. least ≤ℤ p.x) e r.x_from) (subst (λ p. p.x ≤ℤ greatest) e r.x_to))
+    (in_range_fits (row_at list i) (subst (λ p. least ≤ℤ p.y) e r.y_from) (subst (λ p. p.y ≤ℤ greatest) e r.y_to)) h
 
 -- ---- no corners
 pub none_inside : (corners : List ℤ) → length (points corners) ≡ 0 → (missing : List ℤ) → FirstMisplaced corners missing 0
@@ -131,20 +121,40 @@ module _ (corners : List ℤ) (s : Stretch) (l : List Point) (begin end : ℕ) (
   pub range_at : (j : ℕ) → j < end → InRange (point l j)
   range_at j v = all_place InRange l h.range j (omega (arith, h.inside))
 
-  stretch_at : (j : ℕ) → begin ≤ j → j < end → StretchOf (points corners) (packed (point l j) / side) s
-  stretch_at j u v = subst (λ n. StretchOf (points corners) n s) (sym (h.same j u v)) h.stretch
-
   unpacked_at_place : (j : ℕ) → j < end → unpacked (packed (point l j)) ≡ point l j
   unpacked_at_place j v = unpacked_packed (point l j) (range_at j v)
 
-  -- the packed point that is looked at is the one at a place
-  looked_at : (j : ℕ) → j < end → (k : ℕ) → k ≡ packed (point l j) → unpacked k ≡ point l j
-  looked_at j v k e = ap unpacked e ∙ unpacked_at_place j v
+  -- the point at a place of the row, by its column
+  module _ (j : ℕ) (u : begin ≤ j) (v : j < end) (x : ℕ) (e : x ≡ moved (point l j).x) where
+    abbrev key : ℕ
+    key = packed (point l j)
 
-  pub misplaced_at : (j : ℕ) → begin ≤ j → j < end → (k : ℕ) → k ≡ packed (point l j) → (b : Bool) → Tells b (Misplaced (points corners) (unpacked k)) → Tells b (Fault j)
-  misplaced_at j u v k e b t =
-      tells_as b (λ m. (omega (arith, h.inside), subst (Misplaced (points corners)) (looked_at j v k e) m))
-      (λ m. subst (Misplaced (points corners)) (sym (looked_at j v k e)) m.1) t
+    column : x ≡ key % side
+    column = let r = range_at j v in omega (arith, e, moved_small (point l j).x r.x_from r.x_to)
+
+    fault : Misplaced (points corners) (unpacked key) → Fault j
+    fault m = (omega (arith, h.inside), subst (Misplaced (points corners)) (unpacked_at_place j v) m)
+
+    no_fault : (Misplaced (points corners) (unpacked key) → ⊥) → Fault j → ⊥
+    no_fault n m = n (subst (Misplaced (points corners)) (sym (unpacked_at_place j v)) m.1)
+
+    pub beside_row : (x < s.from) ⊎ (s.to ≤ x) → Fault j
+    beside_row w =
+        fault (either w (λ k. left_of_row corners h.outline key s (h.stretch j u v) (omega (arith, k, column)))
+        (λ k. right_of_row corners h.outline key s (h.stretch j u v) (omega (arith, k, column))))
+
+    module _ (from : s.from ≤ x) (to : x < s.to) where
+      -- in the row it is misplaced exactly if it is a corner
+      pub at_corner : (b : Bool) → Tells b (In (point l j) (points corners)) → Tells b (Fault j)
+      at_corner b t =
+          tells_as b fault (λ m. subst (Misplaced (points corners)) (sym (unpacked_at_place j v)) m.1)
+          (at_an_end corners h.outline key s (h.stretch j u v) (omega (arith, from, column)) (omega (arith, to, column)) b
+          (subst (λ p. Tells b (In p (points corners))) (sym (unpacked_at_place j v)) t))
+
+      pub between_row : (x ≡ s.from → ⊥) → (x + 1 ≡ s.to → ⊥) → Fault j → ⊥
+      between_row m n =
+          no_fault (inside_row corners h.outline key s (h.stretch j u v) (omega (arith, from, column)) (omega (arith, to, column))
+          (omega (arith, from, m, column)) (omega (arith, to, n, column)))
 
   module _ (order : Pairs Before l) (some : begin < end) (n : Fault begin → ⊥) (m : Fault (end - 1) → ⊥) where
     from_first : s.from ≤ packed (point l begin) % side
@@ -153,7 +163,7 @@ module _ (corners : List ℤ) (s : Stretch) (l : List Point) (begin end : ℕ) (
         (λ k. absurd (n (
           omega (arith, h.inside),
           subst (Misplaced (points corners)) (unpacked_at_place begin some)
-              (left_of_row corners h.outline (packed (point l begin)) s (stretch_at begin (omega arith) some) k),
+              (left_of_row corners h.outline (packed (point l begin)) s (h.stretch begin (omega arith) some) k),
         ))) (λ k. k)
 
     to_last : packed (point l (end - 1)) % side < s.to
@@ -162,7 +172,7 @@ module _ (corners : List ℤ) (s : Stretch) (l : List Point) (begin end : ℕ) (
         (λ k. absurd (m (
           omega (arith, h.inside),
           subst (Misplaced (points corners)) (unpacked_at_place (end - 1) (omega arith))
-              (right_of_row corners h.outline (packed (point l (end - 1))) s (stretch_at (end - 1) (omega arith) (omega arith)) k),
+              (right_of_row corners h.outline (packed (point l (end - 1))) s (h.stretch (end - 1) (omega arith) (omega arith)) k),
         )))
 
     between_ends : (j : ℕ) → begin < j → j < end - 1 → Misplaced (points corners) (point l j) → ⊥
@@ -174,7 +184,7 @@ module _ (corners : List ℤ) (s : Stretch) (l : List Point) (begin end : ℕ) (
         let e = h.same (end - 1) (omega arith) (omega arith) in
         let g : packed (point l begin) % side < packed (point l j) % side = omega (arith, a, c, d) in
         let i : packed (point l j) % side < packed (point l (end - 1)) % side = omega (arith, b, d, e) in
-        inside_row corners h.outline (packed (point l j)) s (stretch_at j (omega arith) (omega arith)) (omega (arith, g, from_first)) (omega (arith, i, to_last))
+        inside_row corners h.outline (packed (point l j)) s (h.stretch j (omega arith) (omega arith)) (omega (arith, g, from_first)) (omega (arith, i, to_last))
         (omega (arith, g, from_first)) (omega (arith, i, to_last)) (subst (Misplaced (points corners)) (sym (unpacked_at_place j (omega arith))) x)
 
     -- where the ends are not misplaced no point is
@@ -190,16 +200,6 @@ module _ (corners : List ℤ) (s : Stretch) (l : List Point) (begin end : ℕ) (
     upto = h.inside;
     clear = λ j v. either (lt_or_le j begin) (λ k. p.clear j k) (λ k. row_clear order (omega arith) (λ f. n (omega arith) (inl f)) (λ f. n (omega arith) (inr f)) j k v);
   }
-
--- what has to be known of the point that is looked at
-pub known_at : (corners missing : List ℤ) (s : Stretch) (begin end : ℕ) → InOneRow corners s (points missing) begin end
-    → (apart : Bool) → (apart ≡ true → Apart corners missing) → (j : ℕ) → begin ≤ j → j < end → (k : ℕ) → k ≡ packed (point (points missing) j)
-    → Outline corners × StretchOf (points corners) (k / side) s × (apart ≡ true → In (unpacked k) (points corners) → ⊥)
-known_at corners missing s begin end h apart f j u v k e = (
-  h.outline,
-  subst (λ n. StretchOf (points corners) (n / side) s) (sym e) (stretch_at corners s (points missing) begin end h j u v),
-  λ t. apart_at corners missing (f t) k j (omega (arith, h.inside)) (looked_at corners s (points missing) begin end h j v k e),
-)
 
 -- ---- the rows gone through
 -- p is in a row before the hull's first, or in row y or a later one
@@ -227,12 +227,13 @@ module _ {corners missing : List ℤ} (h : Outline corners) {peak : ℕ} (g : Pe
       one_row = record {
         outline = h;
         range = range;
-        rising = r.from;
         inside = r.upto;
-        y = y;
-        stretch = t;
-        same = λ j u v. in_row (point (points missing) j) y (all_place InRange (points missing) range j (omega (arith, r.upto))) (r.within j u v);
+        stretch = λ j u v. subst (λ n. StretchOf (points corners) n s) (sym (row_at j u v)) t;
+        same = λ j u v. row_at j u v ∙ sym (row_at begin (omega arith) (omega (arith, u, v)));
       }
+        where
+          row_at : (j : ℕ) → begin ≤ j → j < end → packed (point (points missing) j) / side ≡ y
+          row_at j u v = in_row (point (points missing) j) y (all_place InRange (points missing) range j (omega (arith, r.upto))) (r.within j u v)
 
       -- the next row's points, if any, are behind
       later : end < length (points missing) → Ahead corners (y + 1) (point (points missing) end)

@@ -1,9 +1,9 @@
 -- The first missing point that does not follow the one before, found by packed points that rise. Assumes nothing.
-use mathlib.Core.Path.{◌≡◌, refl, ap}
+use mathlib.Core.Path.{◌≡◌, refl, ap, subst}
 use mathlib.Core.Logic.{◌⊎◌, inl, inr}
-use mathlib.Core.Bool.{Bool, true, false}
+use mathlib.Core.Bool.{Bool, true, false, ◌&&◌}
 use mathlib.Core.List.{List}
-use Prim.Native.Nat.{ℕ, zero, suc, ◌≤◌, ◌<◌}
+use Prim.Native.Nat.{ℕ, zero, suc, ◌+◌, ◌-◌, ◌≤◌, ◌<◌}
 use native.Mathlib.Omega.{arith}
 use borrow.Author.Tests.{ltb-true, ltb-false}
 use lib.Dec.{ltb}
@@ -74,6 +74,16 @@ module _ (l : List Point) where
       told : (b : Bool) → ltb m n ≡ b → Tells b (Before (point l j) (point l (suc j)))
       told true t = packed_before (point l j) (point l (suc j)) first second (omega (arith, e, f, ltb-true m n t))
       told false t = λ h. omega (arith, e, f, ltb-false m n t, before_packed (point l j) (point l (suc j)) first second h)
+
+  -- a turn of the loop that keeps whether all do: one place more
+  abbrev pub Follow : ℕ → Type 0
+  Follow i = (j : ℕ) → suc j < i → suc j < length l → Before (point l j) (point l (suc j))
+
+  pub follow_more : (i : ℕ) → 0 < i → i < length l → (a b : Bool) → Tells a (Follow i) → Tells b (Before (point l (i - 1)) (point l (suc (i - 1)))) → Tells (a && b) (Follow (i + 1))
+  follow_more i h m true true f g = λ j k n.
+      either (lt_or_le (suc j) i) (λ u. f j u n) (λ u. let e : i - 1 ≡ j = omega (arith, h, k, u) in subst (λ n. Before (point l n) (point l (suc n))) e g)
+  follow_more i h m true false f g = λ n. g (n (i - 1) (omega (arith, h)) (omega (arith, h, m)))
+  follow_more i h m false b f g = λ n. f (λ j k u. n j (omega arith) u)
 
   pub all_in_order : (r : ℕ) → FirstBelow (length l) (Strays l) r → length l ≤ r → Pairs Before l
   all_in_order r f m =

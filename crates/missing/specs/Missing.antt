@@ -28,21 +28,13 @@ pub record FirstFrom (begin : ℕ) (P : ℕ → Type 0) (r : ℕ) : Type 0 where
 abbrev pub Apart : List ℤ → List ℤ → Type 0
 Apart corners missing = (p : Point) → In p (points corners) → In p (points missing) → ⊥
 
--- the points before place r, and no others, are smaller than k when packed
-pub record Sought (l : List Point) (k r : ℕ) : Type 0 where
-  pub upto : r ≤ length l
-  pub below : (j : ℕ) → j < r → packed (point l j) < k
-  pub above : (j : ℕ) → r ≤ j → j < length l → k ≤ packed (point l j)
-
--- the points from place `begin` to before `end` are in row y, whose columns in the hull are those of the stretch
+-- the points from place `begin` to before `end` are in one row, whose columns in the hull are those of the stretch
 pub record InOneRow (corners : List ℤ) (s : Stretch) (l : List Point) (begin end : ℕ) : Type 0 where
   pub outline : Outline corners
   pub range : All InRange l
-  pub rising : begin ≤ end
   pub inside : end ≤ length l
-  pub y : ℕ
-  pub stretch : StretchOf (points corners) y s
-  pub same : (j : ℕ) → begin ≤ j → j < end → packed (point l j) / side ≡ y
+  pub stretch : (j : ℕ) → begin ≤ j → j < end → StretchOf (points corners) (packed (point l j) / side) s
+  pub same : (j : ℕ) → begin ≤ j → j < end → packed (point l j) / side ≡ packed (point l begin) / side
 
 -- there are such points, and the first or the last of them is misplaced
 pub record EndMisplaced (corners missing : List ℤ) (begin end : ℕ) : Type 0 where

@@ -8,15 +8,16 @@ use native.Mathlib.Omega.{arith}
 use lib.ListN.{length, set, length-append}
 use lib.IntN.{ℤ, pos}
 use Rattle.lattice.specs.Point.{Point, most}
+use Rattle.refusal.specs.declared.Refusal.{Refusal}
 use Rattle.lattice.specs.Room.{holding}
 use Rattle.lattice.proofs.Rooms.{holding_length, holding_next}
 use Rattle.netpbm.specs.Raster.{Raster, pixels, fault, onto, pixel_point, black, black_in}
-use Rattle.netpbm.specs.Steps.{whites, Passes, Writable}
+use Rattle.netpbm.specs.Steps.{whites, Passes}
 
 -- a pixel more: the pixels behind it
 pub onto_pixels : (p : Bool) (r : Raster) (l : List Bool) → onto p r ≡ pixels l → (m : List Bool) × (r ≡ pixels m) × (l ≡ p ∷ m)
 onto_pixels p (pixels m) l e = (m, refl, cc)
-onto_pixels p (fault number place) l e = absurd (let z : ◌≡◌ {A = ℕ} 0 1 = cc in omega arith)
+onto_pixels p (fault refusal) l e = absurd cc
 
 -- k of all pixels are passed, n of them black and written, and place i is reached
 pub record Writing (raster : ℕ → ℕ → Raster) (at all width : ℕ) (list₀ list : List ℤ) (n k i : ℕ) : Type 0 where
@@ -28,20 +29,6 @@ pub record Writing (raster : ℕ → ℕ → Raster) (at all width : ℕ) (list�
   pub stand : list ≡ holding written list₀
   pub upto : k ≤ all
 
-pub writing_none : (raster : ℕ → ℕ → Raster) (at all width : ℕ) (list : List ℤ) → Writable (raster all at) width all list
-    → Writing raster at all width list list 0 0 at
-writing_none raster at all width list w =
-    let e : all - 0 ≡ all = omega arith in
-    record {
-      written = [];
-      rest = w.sound.0;
-      left = ap (λ n. raster n at) e ∙ w.sound.1;
-      same = ap (black_in width) (sym w.sound.1);
-      count = refl;
-      stand = refl;
-      upto = omega arith;
-    }
-
 module _ (raster : ℕ → ℕ → Raster) (at all width : ℕ) (list₀ list : List ℤ) (n k i : ℕ)
     (h : Writing raster at all width list₀ list n k i) (inside : k < all) where
   -- what is fetched next is no fault
@@ -50,10 +37,8 @@ module _ (raster : ℕ → ℕ → Raster) (at all width : ℕ) (list₀ list : 
       let e : suc (all - (k + 1)) ≡ all - k = omega arith in
       sym (f (all - (k + 1))) ∙ ap (λ m. raster m i) e ∙ h.left
 
-  pub writing_fault {ℓ} : {X : Type ℓ} (number place : ℕ) → ((m : ℕ) → raster (suc m) i ≡ fault number place) → X
-  writing_fault number place f =
-      let e = fetched (fault number place) f in
-      absurd (let z : ◌≡◌ {A = ℕ} 0 1 = cc in omega arith)
+  pub writing_fault {ℓ} : {X : Type ℓ} (refusal : Refusal) → ((m : ℕ) → raster (suc m) i ≡ fault refusal) → X
+  writing_fault refusal f = let e = fetched (fault refusal) f in absurd cc
 
   module _ (p : Bool) (next : ℕ) (f : (m : ℕ) → raster (suc m) i ≡ onto p (raster m next)) where
     behind : (m : List Bool) × (raster (all - (k + 1)) next ≡ pixels m) × (h.rest ≡ p ∷ m)

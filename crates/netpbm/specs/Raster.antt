@@ -2,16 +2,17 @@
 -- Assumes nothing.
 use Rattle.std.specs.Prelude.{Bool, true, false, List, [], ◌∷◌, ℕ, suc, ◌/◌, ◌%◌, pos}
 use Rattle.lattice.specs.Point.{Point}
+use Rattle.refusal.specs.declared.Refusal.{Refusal}
 
--- what stands behind a header: the pixels, black (true) or white (false), or number and place of the first fault
+-- what stands behind a header: the pixels, black (true) or white (false), or the refusal of the first fault
 pub data Raster : Type 0 where
   pixels : List Bool → Raster
-  fault : ℕ → ℕ → Raster
+  fault : Refusal → Raster
 
 -- a pixel, and the pixels behind it
 abbrev pub onto : Bool → Raster → Raster
 onto p (pixels l) = pixels (p ∷ l)
-onto p (fault number place) = fault number place
+onto p (fault refusal) = fault refusal
 
 -- "the pixels by rows from the top": pixel k, from 0; "A black pixel in column x and row y, both from 0, is the point (x, y)."
 abbrev pub pixel_point : ℕ → ℕ → Point
@@ -25,4 +26,4 @@ black width k (false ∷ l) = black width (suc k) l
 
 abbrev pub black_in : ℕ → Raster → List Point
 black_in width (pixels l) = black width 0 l
-black_in width (fault number place) = []
+black_in width (fault refusal) = []

@@ -1,8 +1,7 @@
 -- What is counted, passed and written of a raster, in the words of the definitions. Assumes nothing.
-use Rattle.std.specs.Prelude.{◌≡◌, Bool, true, false, List, [], ◌∷◌, ℕ, zero, suc, ◌+◌, ◌*◌, ◌-◌, ◌^◌, ◌≤◌, length, ℤ}
+use Rattle.std.specs.Prelude.{◌≡◌, Bool, true, false, List, [], ◌∷◌, ℕ, zero, suc, ◌+◌, ◌*◌, ◌-◌, ◌^◌, ◌≤◌, length, ℤ, Result, Ok, Err}
 use Rattle.lattice.specs.Point.{most}
-use Rattle.netpbm.specs.declared.Count.{Count}
-use Rattle.netpbm.specs.declared.Count.TheVariants.{Black, Fault}
+use Rattle.refusal.specs.declared.Refusal.{Refusal}
 use Rattle.netpbm.specs.Raster.{Raster, pixels, fault, black_in}
 
 -- how many are black
@@ -11,10 +10,10 @@ blacks [] = 0
 blacks (true ∷ l) = suc (blacks l)
 blacks (false ∷ l) = blacks l
 
--- c black pixels, and those of a raster
-abbrev pub counted : ℕ → Raster → Count
-counted c (pixels l) = Black (c + blacks l)
-counted c (fault number place) = Fault number place
+-- c black pixels, and those of a raster, or its fault
+abbrev pub counted : ℕ → Raster → Result ℕ Refusal
+counted c (pixels l) = Ok (c + blacks l)
+counted c (fault refusal) = Err refusal
 
 -- m white pixels, and others behind them
 abbrev pub whites : ℕ → List Bool → List Bool

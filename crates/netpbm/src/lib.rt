@@ -1,29 +1,14 @@
-// What the parts of a bitmap share: white space, how a count of pixels is told, and how a pixel's point is written.
+// What the parts of a bitmap share: white space, and how a pixel's point is written.
 #![tactic(auto)]
 
 ghost use Rattle.std.specs.Prelude.{◌≡◌, ◌+◌, ◌*◌, ◌^◌, ◌<◌, length, set, pos};
 ghost use Rattle.netpbm.specs.Space.{white_space};
 
-// How many pixels are black; or the first fault, number and place.
-#[derive(Clone, Copy)]
-pub enum Count {
-    Black(usize),
-    Fault(u32, usize),
-}
-
 pub fn white_space(b: u8) -> bool
     ensures { result ≡ white_space b }
 {
-    if b == b' ' {
-        return true;
-    }
-    if b == b'\t' {
-        return true;
-    }
-    if b == b'\n' {
-        return true;
-    }
-    b == b'\r'
+    // By `matches!`, LLVM spends four instructions more on each pixel.
+    b == b' ' || b == b'\t' || b == b'\n' || b == b'\r'
 }
 
 // The point of column x and row y, at place n of a list.

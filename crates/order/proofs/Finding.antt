@@ -2,6 +2,7 @@
 use mathlib.Core.Path.{◌≡◌, refl, sym, subst}
 use mathlib.Core.Logic.{inl, inr}
 use mathlib.Core.List.{List}
+use Rattle.std.proofs.Common.{Some, None}
 use Prim.Native.Nat.{ℕ, ◌≤◌, ◌<◌}
 use native.Mathlib.Omega.{arith}
 use lib.ListN.{length, take}
@@ -40,24 +41,18 @@ module _ (list : List ℤ) (keys : List ℕ) where
         result = refl;
       }
 
-      module _ (range : All InRange (points list)) (r : ℕ) (a : Arranges (points list) r keys) where
+      module _ (range : All InRange (points list)) where
         inside : (j : ℕ) → AtPoint OutOfRange (points list) j → ⊥
         inside = none_out_of_range (points list) range
 
-        pub finds_repeat : r < length (points list) → Finds list (record { number = 4; place = r; points = 0 }) keys
-        finds_repeat h = record {
-          gives = behind 4 r (inr (inside, inl (refl, first_here _ (Repeats (points list)) r a.repeat h)));
-          result = refl;
-        }
+        pub finds_repeat : (r : ℕ) → Arranges (points list) (Some r) keys → Finds list (record { number = 4; place = r; points = 0 }) keys
+        finds_repeat r first = record { gives = behind 4 r (inr (inside, inl (refl, first))); result = refl }
 
-        pub finds_all : (n : ℕ) → n ≡ length (points list) → n ≤ r → n ≤ length keys → Finds list (record { number = 0; place = 0; points = n }) keys
-        finds_all n full h wide = record {
-          gives = behind 0 0 (inr (inside, inr (never_below _ (Repeats (points list)) r a.repeat (λ j p. p.0) (omega (arith, full, h)), (refl, refl))));
-          result = (
-            full,
-            wide,
-            subst (λ m. KeysOf (points list) (take m keys)) (sym full) (a.order (omega (arith, a.repeat.upto, full, h))),
-          );
+        pub finds_all : Arranges (points list) None keys → (n : ℕ) → n ≡ length (points list) → n ≤ length keys
+            → Finds list (record { number = 0; place = 0; points = n }) keys
+        finds_all stands n full wide = record {
+          gives = behind 0 0 (inr (inside, inr (stands.apart, (refl, refl))));
+          result = (full, wide, subst (λ m. KeysOf (points list) (take m keys)) (sym full) stands.order);
         }
 
 -- the same of an equal answer

@@ -1,38 +1,22 @@
 -- The shape of the corners, looked at corner by corner: each follows those before it exactly if they are a corner list. Assumes nothing.
 use mathlib.Core.Path.{◌≡◌, sym, ◌∙◌, ap, transport, subst, subst₂}
-use mathlib.Core.Bool.{Bool, true, false}
 use mathlib.Core.List.{List}
 use Prim.Native.Nat.{ℕ, zero, suc, ◌+◌, ◌-◌, ◌≤◌, ◌<◌}
 use native.Mathlib.Omega.{arith}
-use lib.Dec.{T}
 use lib.ListN.{length, get_or}
 use lib.IntN.{ℤ, pos}
-use lib.Signed.{◌<ℤ◌, lt_z}
+use lib.Signed.{◌<ℤ◌}
 use Rattle.lattice.specs.Point.{InRange, points, point, All, Before}
 use Rattle.lattice.specs.Hull.{turn, CornerList}
 use Rattle.lattice.proofs.Lists.{either}
 use Rattle.lattice.proofs.Places.{lt_or_le}
 use Rattle.lattice.proofs.Shape.{ShapeTest}
 use Rattle.lattice.proofs.CornerLists.{corner_list_test}
-use Rattle.packed.specs.Packed.{Tells, cells, unpacked}
+use Rattle.packed.specs.Packed.{cells, unpacked}
 use Rattle.packed.specs.Corners.{keys_of}
-use Rattle.packed.proofs.Tests.{lt_yes}
 use Rattle.packed.proofs.RowOrder.{before_unpacked, unpacked_before}
 use Rattle.packed.proofs.KeysOf.{keys_many, key_point, keys_below}
 use Rattle.outline.specs.Follows.{Follows}
-
--- ---- one corner
-not_less : {a b : ℤ} → lt_z a b ≡ false → a <ℤ b → ⊥
-not_less e h = subst T e h.lt
-
-module _ (first earlier before corner : ℕ) where
-  pub not_seen : lt_z (pos 0) (turn (unpacked first) (unpacked before) (unpacked corner)) ≡ false → Follows first earlier before corner → ⊥
-  not_seen e f = not_less e f.seen
-
-  pub seen_follows : first < corner → (b : Bool) → lt_z (pos 0) (turn (unpacked first) (unpacked before) (unpacked corner)) ≡ true
-      → b ≡ lt_z (pos 0) (turn (unpacked earlier) (unpacked before) (unpacked corner)) → Tells b (Follows first earlier before corner)
-  seen_follows l true s e = record { after = l; seen = lt_yes s; bends = lt_yes (sym e) }
-  seen_follows l false s e = λ f. not_less (sym e) f.bends
 
 -- ---- all corners
 module _ (corners : List ℤ) where
@@ -99,28 +83,7 @@ module _ (corners : List ℤ) (range : All InRange (points corners)) where
       after zero n = second n
       after (suc i) n = (third i n).after
 
-  -- none or one; the second before the first
-  pub few_listed : many corners < 2 → CornerList (points corners) (points corners)
-  few_listed l = third_listed (λ k. absurd (never k)) (λ i k. absurd (omega arith))
-    where
-      never : 1 < many corners → ⊥
-      never k = omega arith
-
-  pub second_first : (first second : ℕ) → first ≡ key corners 0 → second ≡ key corners 1 → 1 < many corners → second ≤ first → CornerList (points corners) (points corners) → ⊥
-  second_first first second e f l m h = omega (arith, e, f, m, listed_after h 0 l)
-
   -- ---- the loop
-  pub shaping_two : (first second : ℕ) → first ≡ key corners 0 → second ≡ key corners 1 → 1 < many corners → first < second → Shaping corners first first second 2
-  shaping_two first second e f l m = record {
-    from = omega arith;
-    upto = omega arith;
-    starts = e;
-    last_but_one = e;
-    last = f;
-    second = omega (arith, e, f, m);
-    third = λ j k. absurd (omega arith);
-  }
-
   module _ {first earlier before i : ℕ} (h : Shaping corners first earlier before i) where
     module _ (l : i < many corners) (corner : ℕ) (e : corner ≡ key corners i) where
       -- the corner at place i and those before it, as the code has them

@@ -13,13 +13,7 @@ fn follows(first: u32, earlier: u32, before: u32, corner: u32) -> bool
     requires { (first < cells) × (earlier < cells) × (before < cells) × (corner < cells) }
     ensures { Tells result (Follows first earlier before corner) }
 {
-    if corner <= first {
-        return false;
-    }
-    if packed::left(first, before, corner) {
-        return packed::left(earlier, before, corner);
-    }
-    false
+    first < corner && packed::left(first, before, corner) && packed::left(earlier, before, corner)
 }
 
 // Whether the points of a list are a corner list. Each is read once.
@@ -37,16 +31,13 @@ pub fn is_corner_list(corners: &[i32]) -> bool
     if before <= first {
         return false;
     }
-    let mut i: usize = 2;
-    while i < n {
+    for i in 2..n {
         let corner = packed::key_at(corners, i);
-        if follows(first, earlier, before, corner) {
-            earlier = before;
-            before = corner;
-            i += 1;
-        } else {
+        if !follows(first, earlier, before, corner) {
             return false;
         }
+        earlier = before;
+        before = corner;
     }
     true
 }

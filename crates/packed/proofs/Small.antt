@@ -53,5 +53,3 @@ pub turn_fits : {a b c d : ℤ} → Within 32768 a → Within 32768 b → Within
 turn_fits h g i j =
     within_fits w64 (32768 * 32768 + 32768 * 32768)
     (within_difference (32768 * 32768) (32768 * 32768) (within_product 32768 32768 h g) (within_product 32768 32768 i j)) (omega arith)
-
-pub ruleset small = (difference_within, difference_fits, product_fits, turn_fits)

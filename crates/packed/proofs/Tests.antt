@@ -20,13 +20,6 @@ lt_no e = lt_z_no (subst (λ t. T (not t)) (sym e) tt)
 pub read_back : (z : ℤ) → SFits w32 z → to_z w32 (of_z w32 z) ≡ z
 read_back z f = to_z-of_z w32 z f
 
-module _ (z : ℤ) (f : SFits w32 z) (b : ℤ) where
-  pub read_lt : {t : Bool} → lt_z (to_z w32 (of_z w32 z)) b ≡ t → lt_z z b ≡ t
-  read_lt e = ap (λ w. lt_z w b) (sym (read_back z f)) ∙ e
-
-  pub read_gt : {t : Bool} → lt_z b (to_z w32 (of_z w32 z)) ≡ t → lt_z b z ≡ t
-  read_gt e = ap (λ w. lt_z b w) (sym (read_back z f)) ∙ e
-
 -- a test that tells whether P holds
 pub tells_yes : {b : Bool} {P : Type 0} → b ≡ true → Tells b P → P
 tells_yes {b} {P} e h = subst (λ t. Tells t P) e h

@@ -1,12 +1,15 @@
 // Points as the code holds them, each one number below 2^28 in row order, and the turn of three of them.
 #![tactic(auto)]
 
-ghost use Rattle.std.specs.Prelude.{◌≡◌, ◌/◌, ◌%◌, ◌<◌, pos, length, get_or, ◌≤ℤ◌};
+ghost use Rattle.std.specs.Prelude.{◌≡◌, ◌/◌, ◌%◌, ◌<◌, pos, length, get_or, ◌-ℤ◌, ◌≤ℤ◌};
 ghost use Rattle.std.specs.Int.Signed.{lt_z};
-ghost use Rattle.lattice.specs.Point.{least, greatest, InRange, points, point};
+ghost use Rattle.lattice.specs.Point.{Point, least, greatest, InRange, points, point};
 ghost use Rattle.lattice.specs.Hull.{turn as turn_of};
-ghost use Rattle.packed.specs.Packed.{Tells, Within, side, cells, moved as moved_of, placed as placed_of, packed as packed_of, unpacked};
+ghost use Rattle.packed.specs.Packed.{Tells, Within, offset, side, cells, moved as moved_of, placed as placed_of, packed as packed_of, unpacked as unpacked_of};
 ghost use Rattle.packed.specs.Corners.{keys_of};
+
+use lattice::Point;
+use std::marker::Model;
 
 // The most points that go in, and the range of a coordinate.
 pub const MOST: usize = 4096;
@@ -18,31 +21,20 @@ pub const GREATEST: i32 = 8191;
 // How many points the range has.
 pub const CELLS: usize = 268435456;
 
-// A coordinate is moved by OFFSET to start at 0, and has SIDE values.
+// A coordinate is moved by OFFSET to start at 0, and has SIDE values: a point is packed as SIDE times its row and its column.
 const OFFSET: i32 = 8192;
 
-const SIDE: u32 = 16384;
+pub const SIDE: u32 = 16384;
 
 // Whether both coordinates are in range.
 pub fn in_range(x: i32, y: i32) -> bool
     ensures { Tells result (InRange (record { x = x; y = y })) }
 {
-    if x < LEAST {
-        return false;
-    }
-    if GREATEST < x {
-        return false;
-    }
-    if y < LEAST {
-        return false;
-    }
-    if GREATEST < y {
-        return false;
-    }
-    true
+    (LEAST..=GREATEST).contains(&x) && (LEAST..=GREATEST).contains(&y)
 }
 
-// A coordinate of the range, moved to start at 0; and back. Only these two are signed and unsigned at once.
+// A coordinate of the range, moved to start at 0; and back. Only these two are signed and unsigned at once, and cast: no `From` leads
+// from one to the other, and a cast is proved to lose nothing.
 pub fn moved(z: i32) -> u32
     requires { (least ≤ℤ z) × (z ≤ℤ greatest) }
     ensures { (result ≡ moved_of z) × (result < side) }
@@ -66,6 +58,8 @@ pub fn packed(x: i32, y: i32) -> u32
 }
 
 // A list is read where it stands: the column and the row of the point at a place, moved to start at 0, and the point, packed.
+// These three keep the clauses that every crate above names, one and the same `requires` among them.
+#[tactic(auto, using(lattice::proofs::Numbers::points_length, lattice::proofs::Numbers::points_at))]
 pub fn column_at(list: &[i32], i: usize) -> u32
     requires { (i < length (points list.now)) × InRange (point (points list.now) i) }
     ensures { (result ≡ moved_of (point (points list.now) i).x) × (result < side) × (result ≡ get_or (keys_of list.now) i 0 % side) }
@@ -73,6 +67,7 @@ pub fn column_at(list: &[i32], i: usize) -> u32
     moved(list[2 * i])
 }
 
+#[tactic(auto, using(lattice::proofs::Numbers::points_length, lattice::proofs::Numbers::points_at))]
 pub fn row_at(list: &[i32], i: usize) -> u32
     requires { (i < length (points list.now)) × InRange (point (points list.now) i) }
     ensures { (result ≡ moved_of (point (points list.now) i).y) × (result < side) × (result ≡ get_or (keys_of list.now) i 0 / side) }
@@ -80,56 +75,78 @@ pub fn row_at(list: &[i32], i: usize) -> u32
     moved(list[2 * i + 1])
 }
 
+#[tactic(auto, using(lattice::proofs::Numbers::points_length, lattice::proofs::Numbers::points_at))]
 pub fn key_at(list: &[i32], i: usize) -> u32
     requires { (i < length (points list.now)) × InRange (point (points list.now) i) }
     ensures { (result ≡ packed_of (point (points list.now) i)) × (result < cells) × (result ≡ get_or (keys_of list.now) i 0) }
 {
-    let x = list[2 * i];
-    let y = list[2 * i + 1];
-    packed(x, y)
+    packed(list[2 * i], list[2 * i + 1])
 }
 
 // Its coordinates.
 pub fn column(k: u32) -> i32
-    ensures { result ≡ (unpacked k).x }
+    ensures { result ≡ (unpacked_of k).x }
 {
     placed(k % SIDE)
 }
 
 pub fn row(k: u32) -> i32
     requires { k < cells }
-    ensures { result ≡ (unpacked k).y }
+    ensures { result ≡ (unpacked_of k).y }
 {
     placed(k / SIDE)
 }
 
-// The turn of three points by their coordinates, moved to start at 0 or not.
-fn turn_at(ax: i64, ay: i64, bx: i64, by: i64, cx: i64, cy: i64) -> i64
-    requires { Within 16384 ax × Within 16384 ay × Within 16384 bx × Within 16384 by × Within 16384 cx × Within 16384 cy }
-    ensures { result ≡ turn_of (record { x = ax; y = ay }) (record { x = bx; y = by }) (record { x = cx; y = cy }) }
+// The point itself.
+pub fn unpacked(k: u32) -> Point
+    requires { k < cells }
+    ensures { result ≡ unpacked_of k }
 {
-    (bx - ax) * (cy - ay) - (by - ay) * (cx - ax)
+    Point {
+        x: column(k),
+        y: row(k),
+    }
 }
 
-// The turn of three points.
-fn turn(a: u32, b: u32, c: u32) -> i64
-    requires { (a < cells) × (b < cells) × (c < cells) }
-    ensures { result ≡ turn_of (unpacked a) (unpacked b) (unpacked c) }
-{
-    turn_at(
-        (a % SIDE) as i64,
-        (a / SIDE) as i64,
-        (b % SIDE) as i64,
-        (b / SIDE) as i64,
-        (c % SIDE) as i64,
-        (c / SIDE) as i64,
-    )
+// A point to compute with: its column and row, moved to start at 0, in 64 bits. A contract sees the point itself.
+#[derive(Drop)]
+struct Spot {
+    column: i64,
+    row: i64,
+}
+
+impl Model for Spot {
+    ghost Value = { Point };
+
+    ghost view = { λ p. record { x = p.column -ℤ pos offset; y = p.row -ℤ pos offset } };
+
+    ghost invariant = { λ p. Within side p.column × Within side p.row };
+}
+
+impl Spot {
+    fn of(k: u32) -> Self
+        requires { k < cells }
+        ensures { result ≡ unpacked_of k }
+    {
+        Spot {
+            column: i64::from(k % SIDE),
+            row: i64::from(k / SIDE),
+        }
+    }
+
+    // The turn from here over b to c.
+    fn turn(self, b: Self, c: Self) -> i64
+        ensures { result ≡ turn_of self b c }
+    {
+        (b.column - self.column) * (c.row - self.row)
+            - (b.row - self.row) * (c.column - self.column)
+    }
 }
 
 // Whether c lies to the left of the line from a to b.
 pub fn left(a: u32, b: u32, c: u32) -> bool
     requires { (a < cells) × (b < cells) × (c < cells) }
-    ensures { result ≡ lt_z (pos 0) (turn_of (unpacked a) (unpacked b) (unpacked c)) }
+    ensures { result ≡ lt_z (pos 0) (turn_of (unpacked_of a) (unpacked_of b) (unpacked_of c)) }
 {
-    turn(a, b, c) > 0
+    Spot::of(a).turn(Spot::of(b), Spot::of(c)) > 0
 }

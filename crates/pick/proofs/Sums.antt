@@ -2,12 +2,12 @@
 use mathlib.Core.Path.{◌≡◌, refl, sym, ◌∙◌, ap, subst}
 use mathlib.Core.List.{List, [], ◌∷◌, map}
 use Prim.Native.Nat.{ℕ, zero, suc, ◌+◌, ◌-◌, ◌*◌, ◌/◌, ◌%◌, ◌≤◌, ◌<◌}
-use native.Mathlib.Nat.{mul-le-mul_right}
 use native.Mathlib.Numerals.{add-one}
 use native.Mathlib.Omega.{arith}
 use lib.ListN.{length, get_or, drop, length-map}
 use lib.Seq.{drop-cons}
 use lib.IntN.{ℤ, pos, negsuc, neg_ℤ, nat_abs, ◌+ℤ◌, ◌*ℤ◌, ◌-ℤ◌}
+use Rattle.std.specs.Int.{abs_diff}
 use Rattle.whole.proofs.Whole.{ring, quote, linear≡, ◌∗≡◌, ◌∔◌}
 use Rattle.lattice.specs.Point.{Point, InRange, points, In}
 use Rattle.lattice.specs.Hull.{InHull, Of}
@@ -22,40 +22,19 @@ use Rattle.packed.proofs.RowOrder.{unpacked_in_range}
 use Rattle.packed.proofs.KeysOf.{keys_unpacked}
 use Rattle.pick.specs.Pick.{divisor, span, cross, around, area, border, twice_count}
 use Rattle.pick.specs.declared.Edges.{Edges}
-use Rattle.pick.specs.Edge.{distance, steps, gain, loss, reached, Small, Adds}
+use Rattle.pick.specs.Edge.{steps, gain, loss, Small, Adds}
 use Rattle.pick.proofs.Moved.{moved, twice_count_moved}
 use Rattle.pick.proofs.Pick.{pick, one_formula}
 
--- ---- a corner's column and row, from the corner packed
-column_of_lem : (x y : ℕ) → x < side → (side * y + x) % side ≡ x
-column_of_lem x y h = omega arith
-
-row_of : (x y : ℕ) → x < side → (side * y + x) / side ≡ y
-row_of x y h = omega arith
-
-module _ (ax ay bx by : ℕ) (h : ax < side) (k : bx < side) where
-  pub steps_of : steps (side * ay + ax) (side * by + bx) ≡ divisor (distance ax bx) (distance ay by)
-  steps_of i = divisor (distance (column_of_lem ax ay h i) (column_of_lem bx by k i)) (distance (row_of ax ay h i) (row_of bx by k i))
-
-  pub gain_of : gain (side * ay + ax) (side * by + bx) ≡ ax * by + steps (side * ay + ax) (side * by + bx)
-  gain_of i = column_of_lem ax ay h i * row_of bx by k i + steps (side * ay + ax) (side * by + bx)
-
-  pub loss_of : loss (side * ay + ax) (side * by + bx) ≡ bx * ay
-  loss_of i = column_of_lem bx by k i * row_of ax ay h i
-
--- ---- no product is large: a column times a row
-pub column_times_row : (x y : ℕ) → x < side → y < side → x * y < cells
-column_times_row x y h k = let c : x ≤ 16383 = omega arith in omega (arith, k, mul-le-mul_right y c)
-
 -- ---- an edge
-distance_is : (a b : ℕ) → nat_abs (pos b -ℤ pos a) ≡ distance a b
+distance_is : (a b : ℕ) → nat_abs (pos b -ℤ pos a) ≡ abs_diff a b
 distance_is a b =
     either (lt_or_le a b)
     (λ h. let e : b ≡ a + (b - a) = omega arith in
-    let f : distance a b ≡ b - a = omega arith in
+    let f : abs_diff a b ≡ b - a = omega arith in
     ap nat_abs (up (pos a) (pos b) (pos (b - a)) (ap pos e)) ∙ sym f)
     (λ h. let e : a ≡ b + (a - b) = omega arith in
-    let f : distance a b ≡ a - b = omega arith in
+    let f : abs_diff a b ≡ a - b = omega arith in
     ap nat_abs (down (pos a) (pos b) (pos (a - b)) (ap pos e)) ∙ absolute (a - b) ∙ sym f)
   where
     up : (a b d : ℤ) → b ≡ a +ℤ d → b -ℤ a ≡ d
@@ -145,14 +124,6 @@ counted (a ∷ l) h some =
     let r = hull_list_exists (map unpacked (a ∷ l)) in
     (length r.0, (r.0, r.1, refl), twice a l (length r.0) (pick (map unpacked (a ∷ l)) (map unpacked (a ∷ l)) r.0 h.listed r.1))
 
--- no corners, no points
-pub none_counted : (corners : List ℕ) → Cornered corners → length corners ≡ 0 → CountOf (HullOf corners) 0
-none_counted [] h e =
-    let r = hull_list_exists [] in
-    let d : 2 * length r.0 ≡ 0 = ap nat_abs (pick [] [] r.0 h.listed r.1) in
-    (r.0, r.1, omega (arith, d))
-none_counted (a ∷ l) h e = absurd (omega (arith, e))
-
 -- ---- the sums stay small: no two corners are the same, so they are not more than the range has points
 pub few_corners : (corners : List ℕ) → Cornered corners → length corners ≤ cells
 few_corners corners h =
@@ -183,51 +154,37 @@ no_corner f (a ∷ l) before (suc i) h = no_corner f l before i (omega arith)
 
 pub record Summed (corners : List ℕ) (s : Edges) (i : ℕ) : Type 0 where
   pub upto : i ≤ length corners
-  pub column : s.column < side
-  pub row : s.row < side
-  pub gains : s.gained + sum gain (reached s) (drop i corners) ≡ 2 + total gain corners
-  pub losses : s.lost + sum loss (reached s) (drop i corners) ≡ total loss corners
+  pub gains : s.gained + sum gain s.corner (drop i corners) ≡ 2 + total gain corners
+  pub losses : s.lost + sum loss s.corner (drop i corners) ≡ total loss corners
   pub few_gained : s.gained ≤ 2 + i * 8589934592
   pub few_lost : s.lost ≤ i * 8589934592
 
 module _ {corners : List ℕ} (h : Cornered corners) (some : 0 < length corners) where
   -- the first edge comes from the last corner
-  pub summed_none : (j : ℕ) → j + 1 ≡ length corners → (column row : ℕ) → column ≡ get_or corners j 0 % side → row ≡ get_or corners j 0 / side
-      → (s : Edges) → s ≡ record { column = column; row = row; gained = 2; lost = 0 } → Summed corners s 0
-  summed_none j d column row e f s g = subst (λ r. Summed corners r 0) (sym g) record {
+  pub summed_none : (last : ℕ) → last ≡ get_or corners (length corners - 1) 0 → (s : Edges)
+      → s ≡ record { corner = last; gained = 2; lost = 0 } → Summed corners s 0
+  summed_none last e s g = subst (λ r. Summed corners r 0) (sym g) record {
     upto = omega arith;
-    column = omega (arith, e);
-    row = omega (arith, f, h.below j (omega (arith, d)));
-    gains = ap (λ n. 2 + sum gain n corners) last;
-    losses = omega (arith, ap (λ n. sum loss n corners) last);
+    gains = ap (λ n. 2 + sum gain n corners) e;
+    losses = omega (arith, ap (λ n. sum loss n corners) e);
     few_gained = omega arith;
     few_lost = omega arith;
   }
-    where
-      last : side * row + column ≡ get_or corners (length corners - 1) 0
-      last =
-          let k : side * row + column ≡ get_or corners j 0 = omega (arith, e, f) in
-          let m : j ≡ length corners - 1 = omega (arith, d) in
-          k ∙ ap (λ n. get_or corners n 0) m
 
   module _ {s : Edges} {i : ℕ} (g : Summed corners s i) where
     pub summed_small : Small s
     summed_small = record {
-      column = g.column;
-      row = g.row;
       few_gained = omega (arith, g.few_gained, g.upto, few_corners corners h);
       few_lost = omega (arith, g.few_lost, g.upto, few_corners corners h);
     }
 
     pub summed_more : i < length corners → (corner : ℕ) → corner ≡ get_or corners i 0 → (r : Edges) → Adds s corner r → Summed corners r (i + 1)
     summed_more u corner e r a =
-        let b : Adds s (get_or corners i 0) r = subst (λ n. Adds s n r) e a in
-        let w : reached r ≡ get_or corners i 0 = omega (arith, b.column, b.row) in record {
+        let w : r.corner ≡ get_or corners i 0 = a.arrives ∙ e in
+        let b : Adds s (get_or corners i 0) r = subst (λ n. Adds s n r) e a in record {
           upto = omega arith;
-          column = omega (arith, b.column);
-          row = omega (arith, b.row, h.below i u);
-          gains = omega (arith, g.gains, b.gains, next_corner gain corners (reached s) i u, ap (λ n. sum gain n (drop (i + 1) corners)) w);
-          losses = omega (arith, g.losses, b.loses, next_corner loss corners (reached s) i u, ap (λ n. sum loss n (drop (i + 1) corners)) w);
+          gains = omega (arith, g.gains, b.gains, next_corner gain corners s.corner i u, ap (λ n. sum gain n (drop (i + 1) corners)) w);
+          losses = omega (arith, g.losses, b.loses, next_corner loss corners s.corner i u, ap (λ n. sum loss n (drop (i + 1) corners)) w);
           few_gained = omega (arith, g.few_gained, b.few_gained);
           few_lost = omega (arith, g.few_lost, b.few_lost);
         }
@@ -237,7 +194,7 @@ module _ {corners : List ℕ} (h : Cornered corners) (some : 0 < length corners)
       whole : (n : ℕ) × CountOf (HullOf corners) n × (s.gained ≡ 2 * n + s.lost)
       whole =
           let r = counted corners h some in
-          (r.0, r.1, omega (arith, g.gains, g.losses, r.2, no_corner gain corners (reached s) i u, no_corner loss corners (reached s) i u))
+          (r.0, r.1, omega (arith, g.gains, g.losses, r.2, no_corner gain corners s.corner i u, no_corner loss corners s.corner i u))
 
       pub summed_order : s.lost ≤ s.gained
       summed_order = omega (arith, whole.2)
@@ -248,3 +205,6 @@ module _ {corners : List ℕ} (h : Cornered corners) (some : 0 < length corners)
 -- ---- corners as numbers
 pub counted_numbers : {corners : List ℤ} → Outline corners → (r : ℕ) → CountOf (HullOf (keys_of corners)) r → CountOf (InHull (Of (points corners))) r
 counted_numbers {corners} h r n = subst (λ c. CountOf (InHull (Of c)) r) (keys_unpacked corners h.range) n
+
+-- what a turn of the loop needs
+pub ruleset summed = (summed_none, summed_small, summed_more, summed_order)

@@ -35,6 +35,11 @@ writes Right text out answer after right fits wide h =
     let s = text_stands text out answer after h (omega (arith, fits, wide)) in
     record { text = text; right = right; answers = s.0; stands = s.1 }
 
+-- what is right for one reason is right for another
+pub writes_as : (Right Other : List ℕ → Type 0) {out : List ℕ} {answer : ℕ} {after : List ℕ} → ((text : List ℕ) → Right text → Other text)
+    → Writes Right out answer after → Writes Other out answer after
+writes_as Right Other f h = record { text = h.text; right = f h.text h.right; answers = h.answers; stands = h.stands }
+
 module _ (list : List ℤ) (h : Sound list) where
   abbrev s : List Point
   s = points list

@@ -2,6 +2,8 @@
 use Rattle.std.specs.Prelude.{◌≡◌, cond, List, ◌++◌, ℕ, ltb, length, drop}
 use Rattle.lattice.specs.Point.{Point}
 use Rattle.lattice.specs.Hull.{CornerList, MissingList}
+use Rattle.refusal.specs.declared.Refusal.{Refusal}
+use Rattle.refusal.specs.Number.{number_of, place_of}
 use Rattle.bitmap.specs.Picture.{Reading, picture, refused, reading_of}
 use Rattle.csv_text.specs.Text.{text_of, refused_text}
 use Rattle.csv_text.specs.Written.{most_missing}
@@ -17,6 +19,10 @@ pub record Reports (s : List Point) (text : List ℕ) : Type 0 where
   pub missing : List Point
   pub missed : MissingList s missing
   pub text_is : text ≡ report_of s corners missing
+
+-- the text is the line of a refusal
+abbrev pub Refuses : Refusal → List ℕ → Type 0
+Refuses r text = text ≡ refused_text (number_of r) (place_of r)
 
 -- "Checks: 20, 21, then the first fault from the left, then 2, then 7.": a declined reading gives its line, an accepted one the report of
 -- its black pixels

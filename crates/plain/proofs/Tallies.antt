@@ -3,11 +3,10 @@ use mathlib.Core.Path.{◌≡◌, refl, sym, ◌∙◌, ap, subst}
 use mathlib.Core.Bool.{Bool, true, false}
 use mathlib.Core.List.{List, [], ◌∷◌}
 use Prim.Native.Nat.{ℕ, zero, suc, ◌+◌, ◌-◌, ◌≤◌, ◌<◌}
-use native.Mathlib.Numerals.{add-one}
 use native.Mathlib.Omega.{arith}
 use borrow.Author.Tests.{eqb-true}
-use lib.ListN.{length, get_or, drop, length-drop}
-use lib.Seq.{drop-cons, drop-drop}
+use lib.ListN.{length, get_or, take, drop, length-drop}
+use lib.Seq.{drop-drop, length-take-le}
 use mir.Val.{bool_byte}
 use Rattle.netpbm.specs.Space.{white_space}
 use Rattle.netpbm.specs.Raster.{pixels}
@@ -16,7 +15,7 @@ use Rattle.netpbm.proofs.Counting.{counted_black, counted_white}
 use Rattle.netpbm.proofs.Writing.{onto_pixels}
 use Rattle.plain.specs.declared.Tally.{Tally}
 use Rattle.plain.specs.Plain.{plain, plain_at}
-use Rattle.plain.specs.Steps.{bad_byte, black_byte, white_byte, number, Numbers, Tallied}
+use Rattle.plain.specs.Steps.{bad_byte, black_byte, white_byte, number, part, Tallied, IsPart}
 use Rattle.plain.proofs.Plain.{blank_ignored, black_first, white_first}
 
 -- ---- how many pass a test
@@ -29,29 +28,23 @@ number_drop test zero l = omega arith
 number_drop test (suc d) [] = omega arith
 number_drop test (suc d) (b ∷ l) = omega (arith, number_drop test d l)
 
-module _ (test : ℕ → Bool) (bytes : List ℕ) (from : ℕ) where
-  numbers_none : Numbers test bytes from from 0
-  numbers_none = record { more = omega arith; few = omega arith }
+number_few : (test : ℕ → Bool) (l : List ℕ) → number test l ≤ length l
+number_few test [] = omega arith
+number_few test (b ∷ l) = omega (arith, number_few test l, bool_byte_few (test b))
 
-  numbers_more : (i c : ℕ) → Numbers test bytes from i c → i < length bytes → (t : Bool) → t ≡ test (get_or bytes i 0)
-      → Numbers test bytes from (i + 1) (c + bool_byte t)
-  numbers_more i c h l t e =
-      let next : number test (drop i bytes) ≡ bool_byte (test (get_or bytes i 0)) + number test (drop (i + 1) bytes) = rw (add-one, drop-cons bytes i 0) in
-      record { more = omega (arith, h.more, next, ap bool_byte e); few = omega (arith, h.few, bool_byte_few t) }
+number_take : (test : ℕ → Bool) (d : ℕ) (l : List ℕ) → number test l ≡ number test (take d l) + number test (drop d l)
+number_take test zero l = omega arith
+number_take test (suc d) [] = refl
+number_take test (suc d) (b ∷ l) = omega (arith, number_take test d l)
 
--- ---- the three tests at once
-pub tallied_none : (bytes : List ℕ) (from : ℕ) → Tallied bytes from from (record { black = 0; white = 0; bad = 0 })
-tallied_none bytes from = record { black = numbers_none _ _ _; white = numbers_none _ _ _; bad = numbers_none _ _ _ }
-
-module _ (bytes : List ℕ) (from i : ℕ) (t : Tally) (h : Tallied bytes from i t) where
-  pub tallied_more : i < length bytes → (bad : Bool) → bad ≡ bad_byte (get_or bytes i 0) → let b = get_or bytes i 0 in
-      Tallied bytes from (i + 1)
-      (record { black = t.black + bool_byte (black_byte b); white = t.white + bool_byte (white_byte b); bad = t.bad + bool_byte bad })
-  tallied_more l bad e = record {
-    black = numbers_more black_byte bytes from i t.black h.black l _ refl;
-    white = numbers_more white_byte bytes from i t.white h.white l _ refl;
-    bad = numbers_more bad_byte bytes from i t.bad h.bad l bad e;
-  }
+-- a byte more
+pub number_next : (test : ℕ → Bool) (l : List ℕ) (i : ℕ) → i < length l
+    → number test (take (i + 1) l) ≡ number test (take i l) + bool_byte (test (get_or l i 0))
+number_next test [] i h = absurd (omega arith)
+number_next test (b ∷ l) zero h = omega arith
+number_next test (b ∷ l) (suc i) h =
+    let e : suc i + 1 ≡ suc (i + 1) = omega arith in
+    ap (λ k. number test (take k (b ∷ l))) e ∙ omega (arith, number_next test l i (omega arith))
 
 -- ---- a byte is white space, a pixel or bad
 data Kind (b : ℕ) : Type 0 where
@@ -73,57 +66,57 @@ kind_of b = by_pixel (black_byte b) refl (white_byte b) refl
     by_pixel false f false g = by_space (white_space b) refl f g
 
 -- ---- bytes of which none is bad are so many pixels, if these are not too many
-counted_numbers : (d : ℕ) (l : List ℕ) (n i c ones zeros : ℕ) → d ≤ length l → number bad_byte l ≡ number bad_byte (drop d l)
-    → number black_byte l ≡ ones + number black_byte (drop d l) → number white_byte l ≡ zeros + number white_byte (drop d l) → ones + zeros ≤ n
-    → counted c (plain l n i) ≡ counted (c + ones) (plain (drop d l) (n - (ones + zeros)) (i + d))
-counted_numbers zero l n i c ones zeros long none e f few =
-    let x : c ≡ c + ones = omega arith in
-    let y : n ≡ n - (ones + zeros) = omega arith in
+counted_numbers : (d : ℕ) (l : List ℕ) (n i c dark light : ℕ) → d ≤ length l → number bad_byte l ≡ number bad_byte (drop d l)
+    → number black_byte l ≡ dark + number black_byte (drop d l) → number white_byte l ≡ light + number white_byte (drop d l) → dark + light ≤ n
+    → counted c (plain l n i) ≡ counted (c + dark) (plain (drop d l) (n - (dark + light)) (i + d))
+counted_numbers zero l n i c dark light long none e f few =
+    let x : c ≡ c + dark = omega arith in
+    let y : n ≡ n - (dark + light) = omega arith in
     let z : i ≡ i + 0 = omega arith in
     λ j. counted (x j) (plain l (y j) (z j))
-counted_numbers (suc d) [] n i c ones zeros long none e f few = absurd (omega arith)
-counted_numbers (suc d) (b ∷ l) n i c ones zeros long none e f few =
-    by_kind (kind_of b) n few (λ n c ones zeros. counted_numbers d l n (suc i) c ones zeros (omega arith))
+counted_numbers (suc d) [] n i c dark light long none e f few = absurd (omega arith)
+counted_numbers (suc d) (b ∷ l) n i c dark light long none e f few =
+    by_kind (kind_of b) n few (λ n c dark light. counted_numbers d l n (suc i) c dark light (omega arith))
   where
     on : suc i + d ≡ i + suc d
     on = omega arith
 
-    by_kind : Kind b → (n : ℕ) → ones + zeros ≤ n
-        → ((n c ones zeros : ℕ) → number bad_byte l ≡ number bad_byte (drop d l) → number black_byte l ≡ ones + number black_byte (drop d l)
-        → number white_byte l ≡ zeros + number white_byte (drop d l) → ones + zeros ≤ n
-        → counted c (plain l n (suc i)) ≡ counted (c + ones) (plain (drop d l) (n - (ones + zeros)) (suc i + d)))
-        → counted c (plain (b ∷ l) n i) ≡ counted (c + ones) (plain (drop d l) (n - (ones + zeros)) (i + suc d))
+    by_kind : Kind b → (n : ℕ) → dark + light ≤ n
+        → ((n c dark light : ℕ) → number bad_byte l ≡ number bad_byte (drop d l) → number black_byte l ≡ dark + number black_byte (drop d l)
+        → number white_byte l ≡ light + number white_byte (drop d l) → dark + light ≤ n
+        → counted c (plain l n (suc i)) ≡ counted (c + dark) (plain (drop d l) (n - (dark + light)) (suc i + d)))
+        → counted c (plain (b ∷ l) n i) ≡ counted (c + dark) (plain (drop d l) (n - (dark + light)) (i + suc d))
     by_kind (blank s o z) n few again =
         let v : bool_byte (bad_byte b) ≡ 0 = rw s in
         ap (counted c) (blank_ignored b l n i s)
-        ∙ again n c ones zeros (omega arith) (omega (arith, ap bool_byte o)) (omega (arith, ap bool_byte z)) few
-        ∙ ap (λ j. counted (c + ones) (plain (drop d l) (n - (ones + zeros)) j)) on
+        ∙ again n c dark light (omega arith) (omega (arith, ap bool_byte o)) (omega (arith, ap bool_byte z)) few
+        ∙ ap (λ j. counted (c + dark) (plain (drop d l) (n - (dark + light)) j)) on
     by_kind (black g) zero few again = let o : bool_byte (black_byte b) ≡ 1 = rw g in absurd (omega (arith, number_drop black_byte d l))
     by_kind (black g) (suc n) few again =
         let o : bool_byte (black_byte b) ≡ 1 = rw g in
         let z : bool_byte (white_byte b) ≡ 0 = rw g in
         let v : bool_byte (bad_byte b) ≡ 0 = rw g in
-        let some : 1 ≤ ones = omega (arith, number_drop black_byte d l) in
-        let x : c + 1 + (ones - 1) ≡ c + ones = omega arith in
-        let y : n - (ones - 1 + zeros) ≡ suc n - (ones + zeros) = omega arith in
+        let some : 1 ≤ dark = omega (arith, number_drop black_byte d l) in
+        let x : c + 1 + (dark - 1) ≡ c + dark = omega arith in
+        let y : n - (dark - 1 + light) ≡ suc n - (dark + light) = omega arith in
         ap (counted c) (black_first b l n i g) ∙ counted_black c (plain l n (suc i))
-        ∙ again n (c + 1) (ones - 1) zeros (omega arith) (omega arith) (omega arith) (omega arith)
+        ∙ again n (c + 1) (dark - 1) light (omega arith) (omega arith) (omega arith) (omega arith)
         ∙ (λ j. counted (x j) (plain (drop d l) (y j) (on j)))
     by_kind (white g) zero few again = let z : bool_byte (white_byte b) ≡ 1 = rw g in absurd (omega (arith, number_drop white_byte d l))
     by_kind (white g) (suc n) few again =
         let o : bool_byte (black_byte b) ≡ 0 = rw g in
         let z : bool_byte (white_byte b) ≡ 1 = rw g in
         let v : bool_byte (bad_byte b) ≡ 0 = rw g in
-        let some : 1 ≤ zeros = omega (arith, number_drop white_byte d l) in
-        let y : n - (ones + (zeros - 1)) ≡ suc n - (ones + zeros) = omega arith in
+        let some : 1 ≤ light = omega (arith, number_drop white_byte d l) in
+        let y : n - (dark + (light - 1)) ≡ suc n - (dark + light) = omega arith in
         ap (counted c) (white_first b l n i g) ∙ counted_white c (plain l n (suc i))
-        ∙ again n c ones (zeros - 1) (omega arith) (omega arith) (omega arith) (omega arith)
-        ∙ (λ j. counted (c + ones) (plain (drop d l) (y j) (on j)))
+        ∙ again n c dark (light - 1) (omega arith) (omega arith) (omega arith) (omega arith)
+        ∙ (λ j. counted (c + dark) (plain (drop d l) (y j) (on j)))
     by_kind (bad s o z) n few again =
         let v : bool_byte (bad_byte b) ≡ 1 = rw (s, o, z) in
         absurd (omega (arith, number_drop bad_byte d l))
 
--- ---- bytes of which none is a black pixel are white ones, where there is no fault
+-- ---- bytes of which none is a black pixel are white dark, where there is no fault
 white_numbers : (d : ℕ) (l : List ℕ) (n i m : ℕ) (q : List Bool) → d ≤ length l → number black_byte l ≡ number black_byte (drop d l)
     → number white_byte l ≡ m + number white_byte (drop d l) → plain l n i ≡ pixels q → WhiteThen (plain (drop d l)) n m (i + d) q
 white_numbers zero l n i m q long none e f =
@@ -144,7 +137,7 @@ white_numbers (suc d) (b ∷ l) n i m q long none e f = by_kind (kind_of b) n m 
     by_kind (blank s o z) n m e f again =
         on n m q (again n m q (omega (arith, ap bool_byte o)) (omega (arith, ap bool_byte z)) (sym (blank_ignored b l n i s) ∙ f))
     by_kind (black g) n m e f again = let o : bool_byte (black_byte b) ≡ 1 = rw g in absurd (omega (arith, number_drop black_byte d l))
-    by_kind (white g) zero m e f again = absurd (let h = rw g at f in let z : ◌≡◌ {A = ℕ} 0 1 = cc in omega arith)
+    by_kind (white g) zero m e f again = absurd (let h = rw g at f in cc)
     by_kind (white g) (suc n) zero e f again = let o : bool_byte (white_byte b) ≡ 1 = rw g in absurd (omega (arith, number_drop white_byte d l))
     by_kind (white g) (suc n) (suc m) e f again =
         let o : bool_byte (black_byte b) ≡ 0 = rw g in
@@ -158,37 +151,42 @@ white_numbers (suc d) (b ∷ l) n i m q long none e f = by_kind (kind_of b) n m 
           behind = ap (λ k. plain (drop d l) k (i + suc d)) a ∙ w.behind;
           same = r.2 ∙ ap (λ p. false ∷ p) w.same;
         }
-    by_kind (bad s o z) zero m e f again = absurd (let h = rw s at f in let z : ◌≡◌ {A = ℕ} 0 1 = cc in omega arith)
-    by_kind (bad s o z) (suc n) m e f again = absurd (let h = rw (s, o, z) at f in let z : ◌≡◌ {A = ℕ} 0 1 = cc in omega arith)
+    by_kind (bad s o z) zero m e f again = absurd (let h = rw s at f in cc)
+    by_kind (bad s o z) (suc n) m e f again = absurd (let h = rw (s, o, z) at f in cc)
 
 -- ---- a part of the file
-module _ (bytes : List ℕ) (i to : ℕ) (t : Tally) (before : i ≤ to) (inside : to ≤ length bytes) (h : Tallied bytes i to t) where
-  reached : i + (to - i) ≡ to
-  reached = omega arith
+module _ (bytes : List ℕ) (i : ℕ) (l : List ℕ) (p : IsPart bytes i l) (t : Tally) (h : Tallied l t) where
+  behind : drop part (drop i bytes) ≡ drop (i + part) bytes
+  behind = drop-drop part i bytes
 
-  behind : drop (to - i) (drop i bytes) ≡ drop to bytes
-  behind = drop-drop (to - i) i bytes ∙ ap (λ k. drop k bytes) reached
+  long : part ≤ length (drop i bytes)
+  long = omega (arith, p.inside, length-drop i bytes)
 
-  long : to - i ≤ length (drop i bytes)
-  long = omega (arith, length-drop i bytes)
+  more : (test : ℕ → Bool) → number test (drop i bytes) ≡ number test l + number test (drop part (drop i bytes))
+  more test = number_take test part (drop i bytes) ∙ ap (λ k. number test k + number test (drop part (drop i bytes))) (sym p.same)
+
+  few : length l ≤ part
+  few = omega (arith, ap length p.same, length-take-le part (drop i bytes) long)
+
+  pub part_few : (t.black ≤ part) × (t.white ≤ part)
+  part_few = (omega (arith, few, h.black, number_few black_byte l), omega (arith, few, h.white, number_few white_byte l))
 
   pub counted_part : t.bad ≡ 0 → (n c : ℕ) → t.black + t.white ≤ n
-      → counted c (plain_at bytes n i) ≡ counted (c + t.black) (plain_at bytes (n - (t.black + t.white)) to)
-  counted_part none n c few =
-      counted_numbers (to - i) (drop i bytes) n i c t.black t.white long
-      (omega (arith, h.bad.more, ap (number bad_byte) behind))
-      (omega (arith, h.black.more, ap (number black_byte) behind))
-      (omega (arith, h.white.more, ap (number white_byte) behind))
-      few
-      ∙ (λ k. counted (c + t.black) (plain (behind k) (n - (t.black + t.white)) (reached k)))
+      → counted c (plain_at bytes n i) ≡ counted (c + t.black) (plain_at bytes (n - (t.black + t.white)) (i + part))
+  counted_part none n c small =
+      counted_numbers part (drop i bytes) n i c t.black t.white long
+      (omega (arith, more bad_byte, h.bad))
+      (omega (arith, more black_byte, h.black))
+      (omega (arith, more white_byte, h.white))
+      small
+      ∙ ap (λ k. counted (c + t.black) (plain k (n - (t.black + t.white)) (i + part))) behind
 
-  pub passes_part : t.black ≡ 0 → Passes (plain_at bytes) i t.white to
-  passes_part none n l e =
-      let w = white_numbers (to - i) (drop i bytes) n i t.white l long
-      (omega (arith, h.black.more, ap (number black_byte) behind)) (omega (arith, h.white.more, ap (number white_byte) behind)) e in
+  pub passes_part : t.black ≡ 0 → Passes (plain_at bytes) i t.white (i + part)
+  passes_part none n m e =
+      let w = white_numbers part (drop i bytes) n i t.white m long (omega (arith, more black_byte, h.black)) (omega (arith, more white_byte, h.white)) e in
       record {
         fits = w.fits;
         rest = w.rest;
-        behind = (λ k. plain (sym behind k) (n - t.white) (sym reached k)) ∙ w.behind;
+        behind = ap (λ k. plain k (n - t.white) (i + part)) (sym behind) ∙ w.behind;
         same = w.same;
       }

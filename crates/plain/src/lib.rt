@@ -1,25 +1,17 @@
 // The pixels of a plain bitmap: checked and counted, by parts up to the first fault, and there one by one.
 #![tactic(auto)]
 
-ghost use Rattle.std.specs.Prelude.{◌≡◌, true, ◌+◌, ◌^◌, ◌≤◌, ◌<◌, length};
+ghost use Rattle.std.specs.Prelude.{◌≡◌, ◌+◌, ◌^◌, ◌<◌, IfSome};
 ghost use Rattle.netpbm.specs.Steps.{counted};
 ghost use Rattle.plain.specs.Plain.{plain_at};
-ghost use Rattle.plain.specs.Steps.{Skips, Fetches, bad_byte, part, Tallied, Leaves};
+ghost use Rattle.plain.specs.Steps.{Skips, Fetches, bad_byte, Tallied, IsPart, Leaves};
 
-use netpbm::Count;
+use refusal::Refusal;
 
 // How many bytes are tallied at a time: so few that a byte holds each count, which lets the compiler count sixteen bytes at once.
 pub const PART: usize = 64;
 
-// The next pixel and the place behind it; or a fault, number and place.
-#[derive(Clone, Copy)]
-pub enum Pixel {
-    Black(usize),
-    White(usize),
-    Fault(u32, usize),
-}
-
-// How many of some bytes are black pixels, white pixels, and neither a pixel nor white space.
+// How many bytes of a part are black pixels, white pixels, and neither a pixel nor white space.
 #[derive(Clone, Copy)]
 pub struct Tally {
     pub black: usize,
@@ -27,158 +19,122 @@ pub struct Tally {
     pub bad: usize,
 }
 
-// How many black pixels were counted; how many pixels are left, and from which place on.
-#[derive(Drop)]
-struct Rest {
-    black: usize,
-    pixels: usize,
-    at: usize,
-}
-
-// The place of the next byte that is no white space; a place past the end stays.
-fn blanks(bytes: &[u8], at: usize) -> usize
-    ensures { Skips bytes.now at result }
-{
-    let mut i = at;
-    while i < bytes.len() {
-        if netpbm::white_space(bytes[i]) {
-            i += 1;
-        } else {
-            return i;
+impl Tally {
+    // The bytes of a part, tallied.
+    pub fn of(part: &[u8; PART]) -> Self
+        ensures { Tallied part.now result }
+    {
+        let mut black: u8 = 0;
+        let mut white: u8 = 0;
+        let mut bad: u8 = 0;
+        for b in part {
+            black += u8::from(*b == b'1');
+            white += u8::from(*b == b'0');
+            bad += u8::from(is_bad(*b));
+        }
+        Tally {
+            black: usize::from(black),
+            white: usize::from(white),
+            bad: usize::from(bad),
         }
     }
-    i
-}
-
-// How pixels are fetched: the next one from a place on, behind white space.
-pub fn fetch(bytes: &[u8], at: usize) -> Pixel
-    ensures { Fetches (plain_at bytes.now) at result }
-{
-    let i = blanks(bytes, at);
-    if i < bytes.len() {
-        let b = bytes[i];
-        if b == b'1' {
-            return Pixel::Black(i + 1);
-        }
-        if b == b'0' {
-            return Pixel::White(i + 1);
-        }
-        return Pixel::Fault(23, i);
-    }
-    Pixel::Fault(24, i)
-}
-
-// The pixels from a place on, one by one, checked and counted, with the black ones before them.
-fn check_each(bytes: &[u8], at: usize, pixels: usize, before: usize) -> Count
-    requires { before + pixels < 2 ^ 64 }
-    ensures { result ≡ counted before (plain_at bytes.now pixels at) }
-{
-    let mut black = before;
-    let mut k: usize = 0;
-    let mut i = at;
-    while k < pixels {
-        match fetch(bytes, i) {
-            Pixel::Black(next) => {
-                black += 1;
-                k += 1;
-                i = next;
-            }
-            Pixel::White(next) => {
-                k += 1;
-                i = next;
-            }
-            Pixel::Fault(number, place) => {
-                return Count::Fault(number, place);
-            }
-        }
-    }
-    let end = blanks(bytes, i);
-    if end < bytes.len() {
-        return Count::Fault(25, end);
-    }
-    Count::Black(black)
 }
 
 // Neither white space nor a pixel.
-fn bad_byte(b: u8) -> bool
+fn is_bad(b: u8) -> bool
     ensures { result ≡ bad_byte b }
 {
-    if netpbm::white_space(b) {
-        return false;
-    }
-    if b == b'1' {
-        return false;
-    }
-    if b == b'0' {
-        return false;
-    }
-    true
+    !(netpbm::white_space(b) || matches!(b, b'0' | b'1'))
 }
 
-// The bytes from one place to another, tallied.
-pub fn tally_part(bytes: &[u8], from: usize, to: usize) -> Tally
-    requires { (from ≤ to) × (to ≤ length bytes.now) × (to < from + 256) }
-    ensures { Tallied bytes.now from to result }
-{
-    let mut black: u8 = 0;
-    let mut white: u8 = 0;
-    let mut bad: u8 = 0;
-    let mut i = from;
-    while i < to {
-        let b = bytes[i];
-        black += (b == b'1') as u8;
-        white += (b == b'0') as u8;
-        bad += bad_byte(b) as u8;
-        i += 1;
-    }
-    Tally {
-        black: black as usize,
-        white: white as usize,
-        bad: bad as usize,
-    }
+// The bytes of a file, whose pixels are read from a place on, which may be past the end.
+#[derive(Drop)]
+pub struct Pixels<'a> {
+    pub bytes: &'a [u8],
+    pub at: usize,
 }
 
-// Whether a whole part stands at a place.
-pub fn whole_part(bytes: &[u8], at: usize) -> bool
-    ensures { result ≡ true → at + part ≤ length bytes.now }
-{
-    if at < bytes.len() {
-        return PART <= bytes.len() - at;
-    }
-    false
-}
-
-// Parts with no fault, from a place on, counted.
-fn count_parts(bytes: &[u8], at: usize, pixels: usize) -> Rest
-    ensures { Leaves (plain_at bytes.now) at pixels result }
-{
-    let mut black: usize = 0;
-    let mut left = pixels;
-    let mut i = at;
-    while whole_part(bytes, i) {
-        let part = tally_part(bytes, i, i + PART);
-        if 0 < part.bad {
-            break;
+impl<'a> Pixels<'a> {
+    // The place of the next byte that is no white space, or one past the end.
+    fn behind_blanks(&self) -> usize
+        ensures { Skips self.now.bytes.now self.now.at result }
+    {
+        // `position` over the rest of the bytes is slower: that slice is made anew for each pixel.
+        let mut at = self.at;
+        while self.bytes.get(at).is_some_and(|b| netpbm::white_space(*b)) {
+            at += 1;
         }
-        let passed = part.black + part.white;
-        if left < passed {
-            break;
-        }
-        black += part.black;
-        left -= passed;
-        i += PART;
+        at
     }
-    Rest {
-        black,
-        pixels: left,
-        at: i,
+
+    // The next pixel, behind white space: whether it is black.
+    pub fn next(&mut self) -> Result<bool, Refusal>
+        ensures same { self.new.bytes.now ≡ self.old.bytes.now }
+        ensures fetches { Fetches (plain_at self.old.bytes.now) self.old.at result self.new.at }
+    {
+        let place = self.behind_blanks();
+        let black = match self.bytes.get(place) {
+            Some(b'1') => true,
+            Some(b'0') => false,
+            Some(_) => return Err(Refusal::BadPixel(place)),
+            None => return Err(Refusal::PixelsEndEarly(place)),
+        };
+        self.at = place + 1;
+        Ok(black)
+    }
+
+    // The next part, where a whole one is left.
+    pub fn part(&self) -> Option<&'a [u8; PART]>
+        ensures { IfSome result (λ p. IsPart self.now.bytes.now self.now.at p.now) }
+    {
+        self.bytes.get(self.at..)?.first_chunk()
+    }
+
+    // Passes parts with no fault, of so many pixels at most: how many are black, and how many pixels are left.
+    fn pass_parts(&mut self, pixels: usize) -> (usize, usize)
+        ensures same { self.new.bytes.now ≡ self.old.bytes.now }
+        ensures leaves { Leaves (plain_at self.old.bytes.now) self.old.at pixels result.0 result.1 self.new.at }
+    {
+        let mut black = 0;
+        let mut left = pixels;
+        while let Some(part) = self.part() {
+            let tally = Tally::of(part);
+            let passed = tally.black + tally.white;
+            if 0 < tally.bad || left < passed {
+                break;
+            }
+            black += tally.black;
+            left -= passed;
+            self.at += PART;
+        }
+        (black, left)
+    }
+
+    // The pixels from here on to the end, one by one, checked and counted: how many are black, with those before them.
+    fn count_each(mut self, pixels: usize, before: usize) -> Result<usize, Refusal>
+        requires { before + pixels < 2 ^ 64 }
+        ensures { result ≡ counted before (plain_at self.entry.bytes.now pixels self.entry.at) }
+    {
+        let mut black = before;
+        for _ in 0..pixels {
+            if self.next()? {
+                black += 1;
+            }
+        }
+        let end = self.behind_blanks();
+        if end < self.bytes.len() {
+            Err(Refusal::BytesAfterPixels(end))
+        } else {
+            Ok(black)
+        }
     }
 }
 
 // The pixels from a place on, checked and counted: by parts up to the first fault or the end, and there one by one.
-pub fn check(bytes: &[u8], at: usize, pixels: usize) -> Count
+pub fn check(bytes: &[u8], at: usize, pixels: usize) -> Result<usize, Refusal>
     ensures { result ≡ counted 0 (plain_at bytes.now pixels at) }
 {
-    let rest = count_parts(bytes, at, pixels);
-    check_each(bytes, rest.at, rest.pixels, rest.black)
+    let mut rest = Pixels { bytes, at };
+    let (black, left) = rest.pass_parts(pixels);
+    rest.count_each(left, black)
 }

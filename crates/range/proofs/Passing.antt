@@ -1,6 +1,6 @@
 -- Laws of a loop that looks for the first place with a fault, of the place it comes to, and of a loop that goes on behind a fault. Assumes nothing.
 use mathlib.Core.Path.{◌≡◌, refl}
-use mathlib.Core.Bool.{Bool, true, false}
+use mathlib.Core.Bool.{Bool, true, false, ◌&&◌}
 use Prim.Native.Nat.{ℕ, ◌+◌, ◌≤◌, ◌<◌}
 use native.Mathlib.Omega.{arith}
 use borrow.Author.Count.{below_more}
@@ -58,6 +58,8 @@ module _ (P : ℕ → Type 0) where
   tells_more i true false false f g n = λ h. g (h i (omega arith))
   tells_more i false b false f g n = λ h. f (λ j l. h j (omega arith))
 
-pub tells_both : (a b : Bool) → b ≡ true → Tells a ((a ≡ true) × (b ≡ true))
-tells_both true b e = (refl, e)
-tells_both false b e = λ h. let z : ◌≡◌ {A = ℕ} 0 1 = cc in omega arith
+  -- the same of the operator
+  pub tells_and : (i : ℕ) (a b : Bool) → Tells a (Passed i) → Tells b (P i) → Tells (a && b) (Passed (i + 1))
+  tells_and i true true f g = below_more P i f g
+  tells_and i true false f g = λ h. g (h i (omega arith))
+  tells_and i false b f g = λ h. f (λ j l. h j (omega arith))

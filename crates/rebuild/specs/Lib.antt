@@ -1,3 +1,4 @@
--- What Rebuild promises, and what is looked at before.
+-- What Rebuild answers and promises, and what is looked at before.
+pub mod Answer
 pub mod Rebuild
 pub mod Looking

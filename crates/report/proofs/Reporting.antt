@@ -4,9 +4,10 @@ use mathlib.Core.Logic.{inl, inr}
 use mathlib.Core.List.{List, [], ◌∷◌}
 use Prim.Native.Nat.{ℕ, zero, suc, ◌*◌, ◌/◌, ◌≤◌, ◌<◌}
 use native.Mathlib.Omega.{arith}
-use lib.ListN.{length, get_or, take}
+use lib.ListN.{length, take}
 use lib.IntN.{ℤ, pos}
-use Rattle.lattice.specs.Point.{Point, origin, points}
+use Rattle.std.specs.Prelude.{Option, Some, None, IfSome, Ok}
+use Rattle.lattice.specs.Point.{Point, points}
 use Rattle.lattice.specs.Hull.{Missing}
 use Rattle.lattice.specs.Grains.{first_of}
 use Rattle.lattice.specs.Refusal.{Table, accepted, ◌when◌else◌, Gives, Whole}
@@ -14,16 +15,17 @@ use Rattle.lattice.specs.Room.{holding}
 use Rattle.lattice.proofs.MissingLists.{missing_list_unique}
 use Rattle.lattice.proofs.Rooms.{holding_length}
 use Rattle.lattice.proofs.Tables.{other_later, both_accept, place_zero}
+use Rattle.packed.specs.Packed.{cells}
 use Rattle.hull.specs.declared.Hulled.{Hulled}
 use Rattle.hull.specs.Hull.{hull_rows, HullResult, HullPromise}
 use Rattle.hull.specs.Within.{MoreMissing, within_rows, WithinPromise}
 use Rattle.hull.proofs.Standing.{Stands, accepted_hulls, accepted_gives, accepted_stands}
-use Rattle.walk.specs.Walk.{Lacking, FirstOf, Takes, Puts}
-use Rattle.report.specs.Answer.{reported, JudgedBy, ReportedBy}
+use Rattle.walk.specs.Walk.{Lacking, FirstIn, Takes, Puts}
+use Rattle.report.specs.Answer.{judged_of, reported_of, verdict_by, first_by, unpacked_in, first_in}
 use Rattle.report.proofs.Missing.{judges_no, judges_yes, missing_takes, missing_puts}
 use Rattle.report.specs.declared.Judged.{Judged}
 use Rattle.report.specs.declared.Reported.{Reported}
-use Rattle.report.specs.Report.{neither, yes, no, verdict_of, VerdictPromise, FewerThanMissing, report_rows, ReportPromise}
+use Rattle.report.specs.Report.{neither, verdict_of, VerdictPromise, FewerThanMissing, report_rows, ReportPromise}
 
 -- declined answers
 abbrev unjudged : ℕ → ℕ → Judged
@@ -31,6 +33,14 @@ unjudged number place = record { number = number; place = place; points = 0; cor
 
 abbrev unreported : ℕ → ℕ → Reported
 unreported number place = record { number = number; place = place; points = 0; corners = 0; missing = 0; verdict = neither; x = pos 0; y = pos 0 }
+
+-- accepted answers
+abbrev judged : ℕ → ℕ → Option Point → Judged
+judged n count first = judged_of (Ok (record { counts = record { points = n; corners = count }; first_missing = first }))
+
+abbrev reported : ℕ → ℕ → ℕ → Option Point → Reported
+reported n count missing first =
+    reported_of (Ok (record { counts = record { points = n; corners = count }; missing = missing; first_missing = first }))
 
 -- ---- Verdict
 module _ (list ordered corners : List ℤ) {answer : Hulled} {ordered' corners' : List ℤ} (f : HullPromise list ordered corners answer ordered' corners') where
@@ -51,20 +61,44 @@ module _ (list ordered corners : List ℤ) {answer : Hulled} {ordered' corners' 
     gives : Gives (hull_rows list ordered corners accepted) 0 0
     gives = place_zero (hull_rows list ordered corners accepted) (tt, (tt, (tt, (tt, (tt, (tt, tt)))))) answer.place (accepted_gives list ordered corners accepted answer ordered' corners' f.gives f.result e)
 
-    module _ (first : ℕ) (d : FirstOf (Lacking (take (2 * answer.corners) corners') (take (2 * answer.points) ordered')) first) where
-      pub verdict_done : (r : Judged) → JudgedBy answer.points answer.corners first r → VerdictPromise list ordered corners r ordered' corners'
-      verdict_done r (inl q) =
-          subst (λ r. VerdictPromise list ordered corners r ordered' corners') (sym q.1) record {
-            gives = gives;
-            hull = accepted_hulls list ordered corners accepted answer ordered' corners' f.gives f.result e;
-            verdict = judges_no _ _ _ _ _ verdict_stands first d q.0;
-          }
-      verdict_done r (inr q) =
-          subst (λ r. VerdictPromise list ordered corners r ordered' corners') (sym q.1) record {
-            gives = gives;
-            hull = accepted_hulls list ordered corners accepted answer ordered' corners' f.gives f.result e;
-            verdict = judges_yes _ _ _ _ _ verdict_stands first d q.0;
-          }
+    pub verdict_done : (first : Option ℕ) → FirstIn (Lacking (take (2 * answer.corners) corners') (take (2 * answer.points) ordered')) first
+        → VerdictPromise list ordered corners (judged answer.points answer.corners (unpacked_in first)) ordered' corners'
+    verdict_done (Some first) d = record {
+      gives = gives;
+      hull = accepted_hulls list ordered corners accepted answer ordered' corners' f.gives f.result e;
+      verdict = judges_no _ _ _ _ _ verdict_stands first d.1 d.0;
+    }
+    verdict_done None d = record {
+      gives = gives;
+      hull = accepted_hulls list ordered corners accepted answer ordered' corners' f.gives f.result e;
+      verdict = judges_yes _ _ _ _ _ verdict_stands cells d (omega arith);
+    }
+
+-- a first missing point is a packed one
+pub first_small : (P : Point → Type 0) (first : Option ℕ) → FirstIn P first → IfSome first (λ k. k < cells)
+first_small P (Some first) d = d.0
+first_small P None d = tt
+
+-- ---- the first of some points
+abbrev first_held : List Point → Option Point
+first_held [] = None
+first_held (p ∷ m) = Some p
+
+first_verdict : (m : List Point) → verdict_by (first_held m) ≡ verdict_of m
+first_verdict [] = refl
+first_verdict (p ∷ m) = refl
+
+first_point : (m : List Point) → first_by (first_held m) ≡ first_of m
+first_point [] = refl
+first_point (p ∷ m) = refl
+
+-- a room that holds them begins with it
+first_of_room : (m : List Point) (room : List ℤ) → first_in (take (2 * length m) (holding m room)) ≡ first_held m
+first_of_room [] room = refl
+first_of_room (p ∷ m) room = ap (λ k. first_in (take k (holding (p ∷ m) room))) (two_more (length m))
+  where
+    two_more : (n : ℕ) → 2 * suc n ≡ suc (suc (2 * n))
+    two_more n = omega arith
 
 -- ---- Report
 -- 7 by the room is 7 by its pairs
@@ -134,32 +168,18 @@ module _ (list ordered corners missing : List ℤ) {answer : Hulled} {ordered' c
       pub report_front : 2 * written ≤ length missing'
       report_front = omega (arith, fits, p.2, ap length p.3, holding_length p.0 missing fits)
 
-      reported_as : (r : Reported) → r ≡ reported answer.points answer.corners (length p.0) (verdict_of p.0) (first_of p.0)
-          → ReportPromise list ordered corners missing r ordered' corners' missing'
-      reported_as r q =
-          subst (λ r. ReportPromise list ordered corners missing r ordered' corners' missing') (sym q) record {
+      pub report_done : ReportPromise list ordered corners missing (reported answer.points answer.corners written (first_in (take (2 * written) missing'))) ordered' corners' missing'
+      report_done =
+          subst (λ r. ReportPromise list ordered corners missing r ordered' corners' missing') (sym shown) record {
             gives = place_zero (report_rows list ordered corners missing accepted) (tt, (tt, (tt, (tt, (tt, (tt, (tt, tt))))))) answer.place
                 (subst (λ n. Gives (report_rows list ordered corners missing accepted) n answer.place) e report_gives);
             hull = accepted_hulls list ordered corners (by_pairs (points list) (length missing / 2)) answer ordered' corners' f.gives f.result e;
-            verdict = record { missing = p.0; listed = p.1; verdict_is = refl; first_is = refl };
+            verdict = record { missing = p.0; listed = p.1; verdict_is = first_verdict p.0; first_is = first_point p.0 };
             listed = (p.0, p.1, refl, p.3);
           }
-
-      pub report_done : (r : Reported) → ReportedBy answer.points answer.corners written missing' r
-          → ReportPromise list ordered corners missing r ordered' corners' missing'
-      report_done r (inl q) = reported_as r (q.1 ∙ none p.0 (sym q.0 ∙ p.2))
         where
-          none : (m : List Point) → 0 ≡ length m
-              → reported answer.points answer.corners 0 yes origin ≡ reported answer.points answer.corners (length m) (verdict_of m) (first_of m)
-          none [] d = refl
-          none (a ∷ m) d = absurd (omega arith)
-      report_done r (inr q) =
-          reported_as r (q.1 ∙ ap (λ k. shown k missing') p.2 ∙ ap (shown (length p.0)) p.3 ∙ some p.0 (omega (arith, q.0, p.2)))
-        where
-          shown : ℕ → List ℤ → Reported
-          shown k room = reported answer.points answer.corners k no (record { x = get_or room 0 (pos 0); y = get_or room 1 (pos 0) })
-
-          some : (m : List Point) → 0 < length m
-              → shown (length m) (holding m missing) ≡ reported answer.points answer.corners (length m) (verdict_of m) (first_of m)
-          some [] d = absurd (omega arith)
-          some (a ∷ m) d = refl
+          shown : reported answer.points answer.corners written (first_in (take (2 * written) missing'))
+              ≡ reported answer.points answer.corners (length p.0) (first_held p.0)
+          shown =
+              (λ i. reported answer.points answer.corners (p.2 i) (first_in (take (2 * p.2 i) (p.3 i))))
+              ∙ ap (reported answer.points answer.corners (length p.0)) (first_of_room p.0 missing)

@@ -1,27 +1,59 @@
--- The answers of Verdict and Report to an accepted grain. Assumes nothing.
-use Rattle.std.specs.Prelude.{◌≡◌, ◌⊎◌, List, ℕ, ◌≤◌, ◌<◌, get_or, ℤ, pos}
+-- The number and the values of each answer of Verdict and Report (document 01: "If an answer is an enum, a definition gives this paper's number
+-- and values for each case."). Assumes nothing.
+use Rattle.std.specs.Prelude.{List, [], ◌∷◌, ℕ, ℤ, Option, Some, None, Result, Ok, Err}
 use Rattle.lattice.specs.Point.{Point, origin}
-use Rattle.packed.specs.Packed.{cells, unpacked}
+use Rattle.packed.specs.Packed.{unpacked}
+use Rattle.refusal.specs.declared.Refusal.{Refusal}
+use Rattle.refusal.specs.Number.{number_of, place_of}
+use Rattle.report.specs.declared.Judgement.{Judgement}
+use Rattle.report.specs.declared.Findings.{Findings}
 use Rattle.report.specs.declared.Judged.{Judged}
 use Rattle.report.specs.declared.Reported.{Reported}
-use Rattle.report.specs.Report.{no, yes}
+use Rattle.report.specs.Report.{no, yes, neither}
 
--- accepted answers
-abbrev pub judged : ℕ → ℕ → ℕ → Point → Judged
-judged n count verdict first =
-    record { number = 0; place = 0; points = n; corners = count; verdict = verdict; x = first.x; y = first.y }
+-- "S is convex (yes) exactly if it has no missing point."
+abbrev pub verdict_by : Option Point → ℕ
+verdict_by None = yes
+verdict_by (Some p) = no
 
-abbrev pub reported : ℕ → ℕ → ℕ → ℕ → Point → Reported
-reported n count missing verdict first =
-    record { number = 0; place = 0; points = n; corners = count; missing = missing; verdict = verdict; x = first.x; y = first.y }
+-- "An accepted Verdict or Report that says yes also shows (0, 0) there"
+abbrev pub first_by : Option Point → Point
+first_by None = origin
+first_by (Some p) = p
 
--- by the first missing point, `cells` if there is none
-abbrev pub JudgedBy : ℕ → ℕ → ℕ → Judged → Type 0
-JudgedBy n count first r =
-    ((first < cells) × (r ≡ judged n count no (unpacked first))) ⊎ ((cells ≤ first) × (r ≡ judged n count yes origin))
+-- "A declined one has its number and place, all counts 0, a third verdict that is neither yes nor no, first missing point (0, 0)."
+abbrev pub judged_of : Result Judgement Refusal → Judged
+judged_of (Ok j) = record {
+  number = 0;
+  place = 0;
+  points = j.counts.points;
+  corners = j.counts.corners;
+  verdict = verdict_by j.first_missing;
+  x = (first_by j.first_missing).x;
+  y = (first_by j.first_missing).y;
+}
+judged_of (Err r) = record { number = number_of r; place = place_of r; points = 0; corners = 0; verdict = neither; x = origin.x; y = origin.y }
 
--- by the missing points, which stand at the front of a room
-abbrev pub ReportedBy : ℕ → ℕ → ℕ → List ℤ → Reported → Type 0
-ReportedBy n count missing room r =
-    ((missing ≡ 0) × (r ≡ reported n count 0 yes origin))
-    ⊎ ((0 < missing) × (r ≡ reported n count missing no (record { x = get_or room 0 (pos 0); y = get_or room 1 (pos 0) })))
+abbrev pub reported_of : Result Findings Refusal → Reported
+reported_of (Ok f) = record {
+  number = 0;
+  place = 0;
+  points = f.counts.points;
+  corners = f.counts.corners;
+  missing = f.missing;
+  verdict = verdict_by f.first_missing;
+  x = (first_by f.first_missing).x;
+  y = (first_by f.first_missing).y;
+}
+reported_of (Err r) =
+    record { number = number_of r; place = place_of r; points = 0; corners = 0; missing = 0; verdict = neither; x = origin.x; y = origin.y }
+
+-- the point that a packed one stands for; the first point of a list of numbers
+abbrev pub unpacked_in : Option ℕ → Option Point
+unpacked_in None = None
+unpacked_in (Some k) = Some (unpacked k)
+
+abbrev pub first_in : List ℤ → Option Point
+first_in [] = None
+first_in (a ∷ []) = None
+first_in (a ∷ b ∷ rest) = Some (record { x = a; y = b })

@@ -1,12 +1,39 @@
 // Verdict: is a grain convex, and the first missing point if it is not. Report: all missing points. Both read on where Hull has written.
 #![tactic(auto)]
 
-ghost use Rattle.std.specs.Prelude.{◌≡◌, ◌*◌, ◌≤◌, length, pos};
-ghost use Rattle.report.specs.Report.{neither, VerdictPromise, ReportPromise};
-ghost use Rattle.report.specs.Answer.{JudgedBy, ReportedBy};
+ghost use Rattle.std.specs.Prelude.{◌≡◌, ◌<◌, IfSome};
+ghost use Rattle.packed.specs.Packed.{cells};
+ghost use Rattle.report.specs.Answer.{judged_of, reported_of, verdict_by as verdict_by_of, unpacked_in, first_in};
+ghost use Rattle.report.specs.Report.{VerdictPromise, ReportPromise};
 
-// What Verdict answers: number and place, 0 and 0 if accepted, how many points and corners there are, the verdict, and the first missing
-// point, (0, 0) where there is none.
+use hull::Counts;
+use lattice::Point;
+use refusal::Refusal;
+
+// What Verdict finds of a grain: it is convex exactly if it has no first missing point.
+#[derive(Clone, Copy)]
+pub struct Judgement {
+    pub counts: Counts,
+    pub first_missing: Option<Point>,
+}
+
+// What Report finds of a grain: how many missing points it has, too.
+#[derive(Clone, Copy)]
+pub struct Findings {
+    pub counts: Counts,
+    pub missing: usize,
+    pub first_missing: Option<Point>,
+}
+
+// The verdicts as C has them. A declined call has neither yes nor no.
+pub const NO: u32 = 0;
+
+pub const YES: u32 = 1;
+
+pub const NEITHER: u32 = 2;
+
+// Verdict's answer as document 01 numbers it and as C has it: number and place, 0 and 0 if accepted, how many points and corners there are,
+// the verdict, and the first missing point, (0, 0) where there is none.
 #[repr(C)]
 #[derive(Clone, Copy)]
 pub struct Judged {
@@ -19,7 +46,37 @@ pub struct Judged {
     pub y: i32,
 }
 
-// What Report answers: the same, and how many missing points there are.
+impl From<Result<Judgement, Refusal>> for Judged {
+    ghost from_gives = { λ answer judged. judged ≡ judged_of answer };
+
+    fn from(answer: Result<Judgement, Refusal>) -> Judged {
+        match answer {
+            Ok(judgement) => {
+                let first = judgement.first_missing.unwrap_or(ORIGIN);
+                Judged {
+                    number: 0,
+                    place: 0,
+                    points: judgement.counts.points,
+                    corners: judgement.counts.corners,
+                    verdict: verdict_by(judgement.first_missing),
+                    x: first.x,
+                    y: first.y,
+                }
+            }
+            Err(refusal) => Judged {
+                number: refusal.number(),
+                place: refusal.place(),
+                points: 0,
+                corners: 0,
+                verdict: NEITHER,
+                x: 0,
+                y: 0,
+            },
+        }
+    }
+}
+
+// Report's answer in the same way, and how many missing points there are.
 #[repr(C)]
 #[derive(Clone, Copy)]
 pub struct Reported {
@@ -33,111 +90,85 @@ pub struct Reported {
     pub y: i32,
 }
 
-// The verdicts. A declined call has neither yes nor no.
-pub const NO: u32 = 0;
+impl From<Result<Findings, Refusal>> for Reported {
+    ghost from_gives = { λ answer reported. reported ≡ reported_of answer };
 
-pub const YES: u32 = 1;
-
-pub const NEITHER: u32 = 2;
-
-fn declined_verdict(number: u32, place: usize) -> Judged
-    ensures { result ≡ record { number = number; place = place; points = 0; corners = 0; verdict = neither; x = pos 0; y = pos 0 } }
-{
-    Judged {
-        number,
-        place,
-        points: 0,
-        corners: 0,
-        verdict: NEITHER,
-        x: 0,
-        y: 0,
+    fn from(answer: Result<Findings, Refusal>) -> Reported {
+        match answer {
+            Ok(findings) => {
+                let first = findings.first_missing.unwrap_or(ORIGIN);
+                Reported {
+                    number: 0,
+                    place: 0,
+                    points: findings.counts.points,
+                    corners: findings.counts.corners,
+                    missing: findings.missing,
+                    verdict: verdict_by(findings.first_missing),
+                    x: first.x,
+                    y: first.y,
+                }
+            }
+            Err(refusal) => Reported {
+                number: refusal.number(),
+                place: refusal.place(),
+                points: 0,
+                corners: 0,
+                missing: 0,
+                verdict: NEITHER,
+                x: 0,
+                y: 0,
+            },
+        }
     }
 }
 
-fn declined_report(number: u32, place: usize) -> Reported
-    ensures { result ≡ record { number = number; place = place; points = 0; corners = 0; missing = 0; verdict = neither; x = pos 0; y = pos 0 } }
+// What an accepted answer shows for the first missing point where there is none.
+const ORIGIN: Point = Point { x: 0, y: 0 };
+
+// Yes or no, by the first missing point.
+fn verdict_by(first_missing: Option<Point>) -> u32
+    ensures { result ≡ verdict_by_of first_missing }
 {
-    Reported {
-        number,
-        place,
-        points: 0,
-        corners: 0,
-        missing: 0,
-        verdict: NEITHER,
-        x: 0,
-        y: 0,
+    match first_missing {
+        Some(_) => NO,
+        None => YES,
     }
 }
 
-// An accepted answer by the first missing point.
-fn accepted_verdict(points: usize, corners: usize, first: u32) -> Judged
-    ensures { JudgedBy points corners first result }
+// The packed point that was found, if there is one.
+fn unpacked(first: Option<u32>) -> Option<Point>
+    requires { IfSome first (λ k. k < cells) }
+    ensures { result ≡ unpacked_in first }
 {
-    if first < walk::NONE {
-        return Judged {
-            number: 0,
-            place: 0,
-            points,
-            corners,
-            verdict: NO,
-            x: packed::column(first),
-            y: packed::row(first),
-        };
-    }
-    Judged {
-        number: 0,
-        place: 0,
-        points,
-        corners,
-        verdict: YES,
-        x: 0,
-        y: 0,
+    match first {
+        Some(k) => Some(packed::unpacked(k)),
+        None => None,
     }
 }
 
-// An accepted answer by the missing points at the front of their room.
-fn accepted_report(points: usize, corners: usize, count: usize, missing: &[i32]) -> Reported
-    requires { 2 * count ≤ length missing.now }
-    ensures { ReportedBy points corners count missing.now result }
+// The first point of a list, if it has one.
+fn first_of(list: &[i32]) -> Option<Point>
+    ensures { result ≡ first_in list.now }
 {
-    if count == 0 {
-        return Reported {
-            number: 0,
-            place: 0,
-            points,
-            corners,
-            missing: 0,
-            verdict: YES,
-            x: 0,
-            y: 0,
-        };
-    }
-    Reported {
-        number: 0,
-        place: 0,
-        points,
-        corners,
-        missing: count,
-        verdict: NO,
-        x: missing[0],
-        y: missing[1],
+    match list {
+        [x, y, ..] => Some(Point { x: *x, y: *y }),
+        _ => None,
     }
 }
 
-// Hull, and whether the grain is convex, with the first missing point.
-pub fn verdict(list: &[i32], ordered: &mut [i32], corners: &mut [i32]) -> Judged
-    ensures { VerdictPromise list.now ordered.old corners.old result ordered.new corners.new }
+// Hull, and the first missing point, if there is one.
+pub fn verdict(list: &[i32], ordered: &mut [i32], corners: &mut [i32]) -> Result<Judgement, Refusal>
+    ensures { VerdictPromise list.now ordered.old corners.old (judged_of result) ordered.new corners.new }
 {
-    let found = hull::hull(list, ordered, corners);
-    let number = found.number;
-    let place = found.place;
-    let n = found.points;
-    let count = found.corners;
-    if number != 0 {
-        return declined_verdict(number, place);
-    }
-    let first = walk::first(&corners[..2 * count], &ordered[..2 * n]);
-    accepted_verdict(n, count, first)
+    let counts = hull::hull(list, ordered, corners)?;
+    let first = walk::first(
+        &corners[..2 * counts.corners],
+        &ordered[..2 * counts.points],
+    );
+    Ok(Judgement {
+        counts,
+        first_missing: unpacked(first),
+    })
 }
 
 // Verdict, and all missing points at the front of their room. Hull counts them before any list is written.
@@ -146,17 +177,18 @@ pub fn report(
     ordered: &mut [i32],
     corners: &mut [i32],
     missing: &mut [i32],
-) -> Reported
-    ensures { ReportPromise list.now ordered.old corners.old missing.old result ordered.new corners.new missing.new }
+) -> Result<Findings, Refusal>
+    ensures { ReportPromise list.now ordered.old corners.old missing.old (reported_of result) ordered.new corners.new missing.new }
 {
-    let found = hull::within(list, ordered, corners, missing.len() / 2);
-    let number = found.number;
-    let place = found.place;
-    let n = found.points;
-    let count = found.corners;
-    if number != 0 {
-        return declined_report(number, place);
-    }
-    let written = walk::write(&corners[..2 * count], &ordered[..2 * n], missing);
-    accepted_report(n, count, written, missing)
+    let counts = hull::within(list, ordered, corners, missing.len() / 2)?;
+    let written = walk::write(
+        &corners[..2 * counts.corners],
+        &ordered[..2 * counts.points],
+        missing,
+    );
+    Ok(Findings {
+        counts,
+        missing: written,
+        first_missing: first_of(&missing[..2 * written]),
+    })
 }

@@ -1,5 +1,5 @@
 // Row ends and Row: the points of one row of a list in row order.
-#![tactic(auto)]
+#![tactic(auto, using(lattice::proofs::Numbers::points_length))]
 
 ghost use Rattle.std.specs.Prelude.{◌≤◌, length};
 ghost use Rattle.lattice.specs.Point.{points};
@@ -18,31 +18,15 @@ pub struct Ends {
 fn sound(list: &[i32]) -> bool
     ensures { Tells result (Sound list.now) }
 {
-    let numbers = list.len();
-    if numbers % 2 == 1 {
-        return false;
-    }
-    if packed::MOST < numbers / 2 {
-        return false;
-    }
-    range::rising(list)
+    list.len() % 2 == 0 && list.len() / 2 <= packed::MOST && range::rising(list)
 }
 
 // How many points from the start are in rows before y.
 fn lead(list: &[i32], y: i32) -> usize
+    requires { Sound list.now }
     ensures { LeadsTo (points list.now) y result }
 {
-    let n = list.len() / 2;
-    let mut i: usize = 0;
-    while i < n {
-        let v = list[2 * i + 1];
-        if v < y {
-            i += 1;
-        } else {
-            return i;
-        }
-    }
-    i
+    range::pairs(list).partition_point(|&[_, v]| v < y)
 }
 
 // Where the points of row y that begin at `begin` end.
@@ -50,17 +34,14 @@ pub fn run(list: &[i32], y: i32, begin: usize) -> usize
     requires { begin ≤ length (points list.now) }
     ensures { RunsTo (points list.now) y begin result }
 {
-    let n = list.len() / 2;
-    let mut i: usize = begin;
-    while i < n {
-        let v = list[2 * i + 1];
-        if v == y {
-            i += 1;
-        } else {
-            return i;
+    let mut end = begin;
+    for &[_, v] in &range::pairs(list)[begin..] {
+        if v != y {
+            break;
         }
+        end += 1;
     }
-    i
+    end
 }
 
 // Where the points of row y begin and end; 0 and 0 for a list that Row does not look at.
@@ -70,17 +51,16 @@ pub fn row_ends(list: &[i32], y: i32) -> Ends
     if sound(list) {
         let begin = lead(list, y);
         let end = run(list, y, begin);
-        return Ends { begin, end };
+        Ends { begin, end }
+    } else {
+        Ends { begin: 0, end: 0 }
     }
-    Ends { begin: 0, end: 0 }
 }
 
 // The points of row y: the part of the list between the two ends.
 pub fn row<'a>(list: &'a [i32], y: i32) -> &'a [i32]
     ensures { RowPromise list.now y result.now }
 {
-    let ends = row_ends(list, y);
-    let begin = 2 * ends.begin;
-    let end = 2 * ends.end;
-    &list[begin..end]
+    let Ends { begin, end } = row_ends(list, y);
+    &list[2 * begin..2 * end]
 }

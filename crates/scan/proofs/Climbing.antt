@@ -20,9 +20,9 @@ use Rattle.packed.specs.Packed.{cells, unpacked}
 use Rattle.packed.proofs.RowOrder.{unpacked_injective, unpacked_in_range}
 use Rattle.packed.specs.Keys.{Below}
 use Rattle.packed.proofs.KeyLaws.{in_unpacked}
-use Rattle.scan.specs.Scanning.{at, Pushable, Pushed, EndsRow, StartsRow, RowTo, RowFrom, first_of, last_of, Rising, Climbed, Cornered}
+use Rattle.scan.specs.Scanning.{at, Pushable, Pushed, EndsRow, StartsRow, RowTo, RowFrom, Rising, Climbed, Cornered}
 use Rattle.scan.proofs.Ways.{Standing, standing_start, standing_same, standing_pushable, standing_pushed, standing_top, standing_all}
-use Rattle.scan.proofs.Rows.{row_at, part, part_length, part_first, part_last, up, down, up_over}
+use Rattle.scan.proofs.Rows.{row_at, up, down, up_over}
 
 -- ---- up
 -- pushed before place i: the first point, and the last points of rows
@@ -73,26 +73,15 @@ module _ (keys stack : List ℕ) (top i : ℕ) (rising : Rising keys) (h : Climb
       inner j v w u = either u (λ z. omega (arith, z, h.some)) (λ d. d (omega (arith, row.upto)) (row.same j v (omega arith)))
 
 module _ (keys stack : List ℕ) (top i end : ℕ) (rising : Rising keys) (h : Climbing keys stack top i) (row : RowTo keys i end) where
-  abbrev e : ℕ
-  e = end - 1
-
-  suc_e : suc e ≡ end
+  suc_e : suc (end - 1) ≡ end
   suc_e = omega (arith, row.some)
 
-  is_last : last_of (part keys i end) ≡ get_or keys e 0
-  is_last = part_last keys i end row.some row.upto e suc_e
+  pub climbing_pushable : length keys ≤ length stack → Pushable stack 0 top (get_or keys (end - 1) 0)
+  climbing_pushable room = up_pushable keys stack top i rising h (end - 1) (subst (RowTo keys i) (sym suc_e) row) room
 
-  pub climbing_row : 0 < length (part keys i end)
-  climbing_row = omega (arith, row.some, part_length keys i end row.some row.upto)
-
-  pub climbing_pushable : length keys ≤ length stack → Pushable stack 0 top (last_of (part keys i end))
-  climbing_pushable room =
-      subst (Pushable stack 0 top) (sym is_last) (up_pushable keys stack top i rising h e (subst (RowTo keys i) (sym suc_e) row) room)
-
-  pub climbing_push : (after : List ℕ) (r : ℕ) → Pushed stack 0 top (last_of (part keys i end)) after r → Climbing keys after r end
+  pub climbing_push : (after : List ℕ) (r : ℕ) → Pushed stack 0 top (get_or keys (end - 1) 0) after r → Climbing keys after r end
   climbing_push after r p =
-      subst (Climbing keys after r) suc_e
-      (up_pushed keys stack top i rising h e (subst (RowTo keys i) (sym suc_e) row) after r (subst (λ k. Pushed stack 0 top k after r) is_last p))
+      subst (Climbing keys after r) suc_e (up_pushed keys stack top i rising h (end - 1) (subst (RowTo keys i) (sym suc_e) row) after r p)
 
 -- the first and the last point differ
 apart : (keys : List ℕ) → Rising keys → 1 < length keys → at keys 0 ≡ at keys (length keys - 1) → ⊥
@@ -156,20 +145,13 @@ descending_start keys stack base n c = record {
 
 module _ (keys stack₀ : List ℕ) (base : ℕ) (stack : List ℕ) (top i : ℕ) (rising : Rising keys) (h : Descending keys stack₀ base stack top i)
     (b : ℕ) (row : RowFrom keys b i) where
-  is_first : first_of (part keys b i) ≡ get_or keys b 0
-  is_first = part_first keys b i row.some (omega (arith, h.upto))
-
-  pub descending_row : 0 < length (part keys b i)
-  descending_row = omega (arith, row.some, part_length keys b i row.some (omega (arith, h.upto)))
-
-  pub descending_pushable : base < length keys → 2 * length keys ≤ length stack → Pushable stack base top (first_of (part keys b i))
+  pub descending_pushable : base < length keys → 2 * length keys ≤ length stack → Pushable stack base top (get_or keys b 0)
   descending_pushable low room =
-      subst (Pushable stack base top) (sym is_first)
-      (standing_pushable keys (negsuc 0) (neg_ℤ (pos range_width)) (DownTo keys i) stack base top h.standing (get_or keys b 0)
-      (omega (arith, h.few, h.upto, row.some)) (rising.below b (omega (arith, h.upto, row.some))))
+      standing_pushable keys (negsuc 0) (neg_ℤ (pos range_width)) (DownTo keys i) stack base top h.standing (get_or keys b 0)
+      (omega (arith, h.few, h.upto, row.some)) (rising.below b (omega (arith, h.upto, row.some)))
 
-  pub descending_push : (after : List ℕ) (r : ℕ) → Pushed stack base top (first_of (part keys b i)) after r → Descending keys stack₀ base after r b
-  descending_push after r q = record {
+  pub descending_push : (after : List ℕ) (r : ℕ) → Pushed stack base top (get_or keys b 0) after r → Descending keys stack₀ base after r b
+  descending_push after r p = record {
     upto = omega (arith, h.upto, row.some);
     few = omega (arith, h.few, p.result, p.under, row.some);
     kept = λ j u. p.kept j (omega (arith, u, p.from)) ∙ h.kept j u;
@@ -184,9 +166,6 @@ module _ (keys stack₀ : List ℕ) (base : ℕ) (stack : List ℕ) (top i : ℕ
         (λ j n u. either (lt_or_le j i) (λ v. either (lt_or_le b j) (λ w. absurd (inner j w v u.1)) (λ w. inl (omega (arith, w, u.0)))) (λ v. inr (v, u.1)));
   }
     where
-      p : Pushed stack base top (get_or keys b 0) after r
-      p = subst (λ k. Pushed stack base top k after r) is_first q
-
       -- a point of the row before which another stands is not pushed
       inner : (j : ℕ) → b < j → j < i → (j ≡ length keys - 1) ⊎ StartsRow keys j → ⊥
       inner j w v u =
@@ -247,6 +226,10 @@ module _ (keys stack₀ : List ℕ) (base : ℕ) (stack : List ℕ) (top i : ℕ
               (subst (λ b. Downward (pos range_width) (Of (map unpacked keys)) (at stack (base + h.standing.height)) (stack_of (λ j. at stack (b + j)) h.standing.height)) c.tops
               (standing_all keys (negsuc 0) (neg_ℤ (pos range_width)) (DownTo keys i) stack base top h.standing
               (length keys - 1) 0 (StartsRow keys) (down keys rising (omega arith)) (λ j m e. (omega arith, inr e)) at_base)))
+
+-- the array that a stack leaves behind is the stack's
+pub array_left : (P : List ℕ → Type 0) {after stack : List ℕ} → after ≡ stack → P stack → P after
+array_left P e p = subst P (sym e) p
 
 -- ---- no point, and one
 pub cornered_none : (keys stack : List ℕ) → length keys ≡ 0 → Cornered keys stack 0

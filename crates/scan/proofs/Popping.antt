@@ -2,7 +2,6 @@
 use mathlib.Core.Path.{◌≡◌, refl, sym, ◌∙◌, ap, subst}
 use mathlib.Core.List.{List}
 use Prim.Native.Nat.{ℕ, suc, ◌+◌, ◌-◌, ◌≤◌, ◌<◌}
-use native.Mathlib.Numerals.{add-one}
 use native.Mathlib.Omega.{arith}
 use lib.ListN.{length, get_or, set}
 use lib.Seq.{get_or-set_same, get_or-set_other}
@@ -48,14 +47,14 @@ module _ (stack₀ : List ℕ) (base top k : ℕ) (stack : List ℕ) (last : ℕ
 
   pub popping_ends : Pushable stack₀ base top k
       → ((i : ℕ) → base ≤ i → suc i ≡ last → pos 0 <ℤ turn (at stack i) (at stack last) (unpacked k))
-      → Pushed stack₀ base top k (set stack (last + 1) k) (last + 2)
-  popping_ends p stops = record {
+      → (free : ℕ) → free ≡ suc last → Pushed stack₀ base top k (set stack free k) (free + 1)
+  popping_ends p stops free e = record {
     last = last;
-    result = refl;
+    result = omega (arith, e);
     from = h.from;
     under = h.under;
     popped = h.popped;
-    stops = λ i b e. subst (λ s. pos 0 <ℤ turn (at s i) (at s last) (unpacked k)) h.same (stops i b e);
-    kept = λ i l. get_or-set_other stack (last + 1) i k 0 (λ q. omega arith) ∙ ap (λ s. get_or s i 0) h.same;
-    here = ap (λ n. get_or (set stack (last + 1) k) n 0) (sym (add-one last)) ∙ get_or-set_same stack (last + 1) k 0 (omega (arith, p.room, h.under, ap length h.same));
+    stops = λ i b d. subst (λ s. pos 0 <ℤ turn (at s i) (at s last) (unpacked k)) h.same (stops i b d);
+    kept = λ i l. get_or-set_other stack free i k 0 (λ q. omega (arith, e)) ∙ ap (λ s. get_or s i 0) h.same;
+    here = ap (λ n. get_or (set stack free k) n 0) (sym e) ∙ get_or-set_same stack free k 0 (omega (arith, e, p.room, h.under, ap length h.same));
   }

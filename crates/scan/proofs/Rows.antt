@@ -4,8 +4,7 @@ use mathlib.Core.Logic.{inl, inr}
 use mathlib.Core.List.{List, [], ◌∷◌}
 use Prim.Native.Nat.{ℕ, zero, suc, ◌+◌, ◌-◌, ◌*◌, ◌/◌, ◌%◌, ◌≤◌, ◌<◌}
 use native.Mathlib.Omega.{arith}
-use lib.ListN.{length, get_or, take, drop, length-drop}
-use lib.Seq.{length-take-le, get_or-take, get_or-drop}
+use lib.ListN.{length, get_or}
 use lib.IntN.{ℤ, pos, negsuc, neg_ℤ, ◌-ℤ◌, ◌*ℤ◌}
 use Rattle.whole.proofs.Whole.{quote, NonNegative, ◌⊠◌, linear≤}
 use Rattle.lattice.specs.Point.{InRange}
@@ -15,7 +14,7 @@ use Rattle.lattice.proofs.RowKey.{range_width, before_key, key_before, opposite,
 use Rattle.lattice.proofs.Scan.{Over}
 use Rattle.packed.specs.Packed.{side, placed}
 use Rattle.packed.proofs.RowOrder.{unpacked_in_range, before_unpacked, unpacked_before, placed_grows}
-use Rattle.scan.specs.Scanning.{at, Rising, EndsRow, StartsRow, RowTo, RowFrom, first_of, last_of}
+use Rattle.scan.specs.Scanning.{at, Rising, EndsRow, StartsRow, RowTo, RowFrom}
 use Rattle.scan.proofs.Ways.{Way}
 
 -- the row of a place
@@ -169,20 +168,3 @@ module _ (keys : List ℕ) (begin end : ℕ) (h : Running keys begin end) where
     same = h.same;
     starts = λ j e d. let f : j ≡ begin - 1 = omega (arith, e) in n (omega (arith, e)) (ap (row_at keys) (sym f) ∙ d);
   }
-
--- ---- a part from the middle: its first and its last point
-abbrev pub part : List ℕ → ℕ → ℕ → List ℕ
-part keys begin end = take (end - begin) (drop begin keys)
-
-module _ (keys : List ℕ) (begin end : ℕ) (some : begin < end) (upto : end ≤ length keys) where
-  pub part_length : length (part keys begin end) ≡ end - begin
-  part_length = length-take-le (end - begin) (drop begin keys) (omega (arith, length-drop begin keys))
-
-  part_at : (i j : ℕ) → i < end - begin → begin + i ≡ j → get_or (part keys begin end) i 0 ≡ get_or keys j 0
-  part_at i j l e = get_or-take (end - begin) (drop begin keys) i 0 l ∙ get_or-drop begin keys i 0 ∙ ap (λ n. get_or keys n 0) e
-
-  pub part_first : first_of (part keys begin end) ≡ get_or keys begin 0
-  part_first = part_at 0 begin (omega arith) (omega arith)
-
-  pub part_last : (e : ℕ) → suc e ≡ end → last_of (part keys begin end) ≡ get_or keys e 0
-  part_last e q = part_at (length (part keys begin end) - 1) e (omega (arith, part_length)) (omega (arith, part_length, q))

@@ -57,13 +57,6 @@ pub record RowFrom (keys : List ℕ) (begin end : ℕ) : Type 0 where
   pub same : (j : ℕ) → begin ≤ j → suc j < end → get_or keys j 0 / side ≡ get_or keys (suc j) 0 / side
   pub starts : StartsRow keys begin
 
--- the first, the last of some packed points
-abbrev pub first_of : List ℕ → ℕ
-first_of row = get_or row 0 0
-
-abbrev pub last_of : List ℕ → ℕ
-last_of row = get_or row (length row - 1) 0
-
 -- points to be scanned: two or more, and an array with two places for each
 pub record Scannable (keys stack : List ℕ) : Type 0 where
   pub rising : Rising keys

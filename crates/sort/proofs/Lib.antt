@@ -1,5 +1,4 @@
 -- The theory of the sort. `Sorted` and `Repeats` have what callers cite; the others serve the proofs of the crate's own functions.
-pub mod Cases
 pub mod Rising
 pub mod Sorted
 pub mod Repeats

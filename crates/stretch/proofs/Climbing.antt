@@ -90,9 +90,6 @@ module _ (a b y : ℕ) (h : Slope a b y) where
   pub slope_small : (rows : ℕ) → rows ≤ height → slope_of a b * rows < cells * unit * 2
   slope_small rows l = omega (arith, mul-le-mul_left (slope_of a b) l, slope_bounds.1, h.b_below)
 
-  pub one_slope_small : slope_of a b < cells * unit * 2
-  one_slope_small = omega (arith, slope_small 1 (omega (arith, some_height)))
-
   -- one row further
   module _ (move : ℕ) (few : move < unit) (high : y < b / side) (e : Edge) (c : Climbs a b y move e) where
     further : slope_of a b * (y + 1 - a / side) ≡ slope_of a b * (y - a / side) + slope_of a b
@@ -103,7 +100,7 @@ module _ (a b y : ℕ) (h : Slope a b y) where
     pub step_small : e.position + e.slope < unit * unit
     step_small = omega (arith, c.position, c.slope, few, further, slope_small (y + 1 - a / side) (omega (arith, high)))
 
-    pub climbs_on : Climbs a b (y + 1) move (record { place = e.place; last = e.last; position = e.position + e.slope; slope = e.slope })
+    pub climbs_on : Climbs a b (y + 1) move (record { top = e.top; last = e.last; position = e.position + e.slope; slope = e.slope })
     climbs_on = record { last = c.last; position = omega (arith, c.position, c.slope, further); slope = c.slope }
 
   abbrev weight : ℕ

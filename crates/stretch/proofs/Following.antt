@@ -79,41 +79,37 @@ module _ (corners : List ℕ) (peak y : ℕ) (h : Peaked corners peak y) where
       up : Rising corners peak y e
       up = on.tall right_tall
 
-      up_high : y < get_or corners (e.place + 1) 0 / side
+      up_high : y < get_or corners (up.place + 1) 0 / side
       up_high = omega (arith, l, up.climbs.last)
 
-      up_on : y + 1 ≤ get_or corners (suc e.place) 0 / side
-      up_on = subst (λ n. y + 1 ≤ get_or corners n 0 / side) (add-one e.place) (omega (arith, up_high))
+      up_on : y + 1 ≤ get_or corners (suc up.place) 0 / side
+      up_on = subst (λ n. y + 1 ≤ get_or corners n 0 / side) (add-one up.place) (omega (arith, up_high))
 
       pub right_small : e.position + e.slope < unit * unit
-      right_small = step_small _ _ y (rising_slope e.place up.rises) 0 (omega arith) up_high e up.climbs
+      right_small = step_small _ _ y (rising_slope up.place up.rises) 0 (omega arith) up_high e up.climbs
 
       pub right_on : (r : Edge) → r ≡ stepped e → OnRight corners peak (y + 1) r
       right_on r q = let k = up.rises in subst (OnRight corners peak (y + 1)) (sym q) (record {
         tall = λ t. record {
+          place = up.place;
+          top = up.top;
           before = up.before;
           rises = record { inside = k.inside; low = omega (arith, k.low); high = up_on; steep = k.steep };
-          climbs = climbs_on _ _ y (rising_slope e.place k) 0 (omega arith) up_high e up.climbs;
+          climbs = climbs_on _ _ y (rising_slope up.place k) 0 (omega arith) up_high e up.climbs;
         };
         only = λ n. absurd (n right_tall);
       })
 
     -- past its end: the next edge, or one behind it
-    pub rises_from : y < last_row_lem → e.last ≤ y → RisesFrom corners peak (y + 1) (e.place + 1)
+    pub rises_from : y < last_row_lem → e.last ≤ y → RisesFrom corners peak (y + 1) e.top
     rises_from l k =
         let r = on.tall (tall_from l) in
-        rises_on corners peak (y + 1) (next_row l) e.place (record { before = r.before; low = omega (arith, r.rises.low) }) (omega (arith, k, r.climbs.last))
+        subst (RisesFrom corners peak (y + 1)) (sym r.top)
+        (rises_on corners peak (y + 1) (next_row l) r.place (record { before = r.before; low = omega (arith, r.rises.low) }) (omega (arith, k, r.climbs.last)))
 
-  pub right_of : (i : ℕ) → i < peak → Rises corners y i → Tall corners peak → (e : Edge) → e.place ≡ i
+  pub right_of : (i : ℕ) → i < peak → Rises corners y i → Tall corners peak → (e : Edge) → e.top ≡ i + 1
       → Climbs (get_or corners i 0) (get_or corners (i + 1) 0) y 0 e → OnRight corners peak y e
-  right_of i b r t e q c = record {
-    tall = λ _. record {
-      before = omega (arith, b, q);
-      rises = subst (Rises corners y) (sym q) r;
-      climbs = subst (λ n. Climbs (get_or corners n 0) (get_or corners (n + 1) 0) y 0 e) (sym q) c;
-    };
-    only = λ n. absurd (n t);
-  }
+  right_of i b r t e q c = record { tall = λ _. record { place = i; top = q; before = b; rises = r; climbs = c }; only = λ n. absurd (n t) }
 
   -- ---- the left side
   module _ (e : Edge) (on : OnLeft corners peak y e) where
@@ -124,14 +120,11 @@ module _ (corners : List ℕ) (peak y : ℕ) (h : Peaked corners peak y) where
       down : Falling corners peak y e
       down = on.tall left_tall
 
-      down_high : y < get_or corners e.place 0 / side
+      down_high : y < get_or corners e.top 0 / side
       down_high = omega (arith, l, down.climbs.last)
 
-      pub left_below : y < last_row_lem
-      left_below = omega (arith, down_high, h.peaks.greatest e.place down.falls.inside)
-
       pub left_small : e.position + e.slope < unit * unit
-      left_small = step_small _ _ y (falling_slope e.place down.end down.falls) moved (omega arith) down_high e down.climbs
+      left_small = step_small _ _ y (falling_slope e.top down.end down.falls) moved (omega arith) down_high e down.climbs
 
       pub left_on : (r : Edge) → r ≡ stepped e → OnLeft corners peak (y + 1) r
       left_on r q = let f = down.falls in subst (OnLeft corners peak (y + 1)) (sym q) (record {
@@ -139,7 +132,7 @@ module _ (corners : List ℕ) (peak y : ℕ) (h : Peaked corners peak y) where
           end = down.end;
           behind = down.behind;
           falls = record { inside = f.inside; after = f.after; high = omega (arith, down_high); low = omega (arith, f.low); steep = f.steep };
-          climbs = climbs_on _ _ y (falling_slope e.place down.end f) moved (omega arith) down_high e down.climbs;
+          climbs = climbs_on _ _ y (falling_slope e.top down.end f) moved (omega arith) down_high e down.climbs;
         };
         only = λ n. absurd (n left_tall);
       })
@@ -148,22 +141,22 @@ module _ (corners : List ℕ) (peak y : ℕ) (h : Peaked corners peak y) where
       done : Falling corners peak y e
       done = on.tall (tall_from l)
 
-      low : get_or corners e.place 0 / side ≤ y
+      low : get_or corners e.top 0 / side ≤ y
       low = omega (arith, k, done.climbs.last)
 
-      pub falls_place : peak < e.place
+      pub falls_place : peak < e.top
       falls_place =
-          either (lt_or_le peak e.place) (λ g. g)
-          (λ g. let q : peak ≡ e.place = omega (arith, done.behind, g) in absurd (omega (arith, l, low, ap (λ n. get_or corners n 0 / side) q)))
+          either (lt_or_le peak e.top) (λ g. g)
+          (λ g. let q : peak ≡ e.top = omega (arith, done.behind, g) in absurd (omega (arith, l, low, ap (λ n. get_or corners n 0 / side) q)))
 
-      pub falls_from : FallsFrom corners peak (y + 1) (e.place - 1)
-      falls_from = let q : e.place ≡ e.place - 1 + 1 = omega (arith, falls_place) in record {
+      pub falls_from : FallsFrom corners peak (y + 1) (e.top - 1)
+      falls_from = let q : e.top ≡ e.top - 1 + 1 = omega (arith, falls_place) in record {
         behind = omega (arith, falls_place);
         inside = omega (arith, falls_place, done.falls.inside);
         low = subst (λ n. get_or corners n 0 / side < y + 1) q (omega (arith, low));
       }
 
-  pub left_of : (i end : ℕ) → peak ≤ i → Falls corners y i end → Tall corners peak → (e : Edge) → e.place ≡ i
+  pub left_of : (i end : ℕ) → peak ≤ i → Falls corners y i end → Tall corners peak → (e : Edge) → e.top ≡ i
       → Climbs end (get_or corners i 0) y moved e → OnLeft corners peak y e
   left_of i end b f t e q c = record {
     tall = λ _. record {

@@ -4,3 +4,4 @@ pub mod Climbing
 pub mod Rowing
 pub mod Sides
 pub mod Following
+pub mod Upwards

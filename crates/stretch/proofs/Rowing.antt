@@ -4,26 +4,19 @@ use mathlib.Core.Path.{subst}
 use mathlib.Core.List.{List, map}
 use Prim.Native.Nat.{ℕ, ◌+◌, ◌*◌, ◌≤◌, ◌<◌}
 use native.Mathlib.Omega.{arith}
-use lib.ListN.{length, get_or}
-use lib.IntN.{ℤ}
-use Rattle.lattice.specs.Point.{Point, InRange, points, point, In, Before}
+use lib.ListN.{get_or}
+use Rattle.lattice.specs.Point.{Point, In, Before}
 use Rattle.lattice.specs.Hull.{InHull, Of}
 use Rattle.lattice.proofs.Lists.{either}
 use Rattle.lattice.proofs.Places.{lt_or_le}
 use Rattle.lattice.proofs.CornerLists.{corner_list_shape}
 use Rattle.lattice.proofs.Polygon.{InsideEnds, polygon_by_ends}
 use Rattle.packed.specs.Packed.{side, unpacked}
-use Rattle.packed.specs.Corners.{Cornered, keys_of}
+use Rattle.packed.specs.Corners.{Cornered}
 use Rattle.packed.proofs.RowOrder.{unpacked_before}
 use Rattle.packed.proofs.KeyLaws.{unpacked_in, in_unpacked}
-use Rattle.packed.proofs.KeysOf.{readable}
-use Rattle.stretch.specs.Stretch.{cell, Peaked, HasRow}
+use Rattle.stretch.specs.Stretch.{cell, Peaked}
 use Rattle.stretch.proofs.Counting.{cell_before, before_cell, is_cell_before, is_before_cell}
-
--- each corner can be read
-pub corner_in_row : {corners : List ℤ} {peak y : ℕ} → HasRow corners peak y → (i : ℕ) → i < length (keys_of corners)
-    → (i < length (points corners)) × InRange (point (points corners) i)
-corner_in_row {corners} h i l = readable corners h.range i l
 
 -- they are a corner list
 pub cornered_of : {corners : List ℕ} {peak y : ℕ} → Peaked corners peak y → Cornered corners

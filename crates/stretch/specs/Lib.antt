@@ -1,2 +1,3 @@
--- The columns of a row that lie in a hull.
+-- The columns of a row that lie in a hull, and the rows one after the other.
 pub mod Stretch
+pub mod Ahead

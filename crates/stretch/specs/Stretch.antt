@@ -1,10 +1,12 @@
 -- The points of a row that lie in a hull: one stretch of columns. Assumes nothing.
-use Rattle.std.specs.Prelude.{◌≡◌, ◌⊎◌, ◌↔◌, List, map, ℕ, suc, ◌+◌, ◌-◌, ◌*◌, ◌/◌, ◌%◌, ◌≤◌, ◌<◌, length, get_or, ℤ}
+use Rattle.std.specs.Prelude.{◌≡◌, ◌⊎◌, ◌↔◌, List, map, ℕ, suc, ◌+◌, ◌-◌, ◌*◌, ◌/◌, ◌%◌, ◌^◌, ◌≤◌, ◌<◌, length, get_or, ℤ}
 use Rattle.lattice.specs.Point.{Point, InRange, points, All}
 use Rattle.lattice.specs.Hull.{InHull, Of, CornerList}
 use Rattle.packed.specs.Packed.{side, cells, placed, unpacked}
 use Rattle.packed.specs.Corners.{keys_of}
 use Rattle.stretch.specs.declared.Stretch.{Stretch}
+use Rattle.stretch.specs.declared.Side.{Side}
+use Rattle.stretch.specs.declared.Side.TheVariants.{Left, Right}
 use Rattle.stretch.specs.declared.Edge.{Edge}
 use Rattle.stretch.specs.declared.Crossing.{Crossing}
 
@@ -103,6 +105,20 @@ pub record FallsFrom (corners : List ℕ) (peak y i : ℕ) : Type 0 where
   pub inside : suc i < length corners
   pub low : get_or corners (i + 1) 0 / side < y
 
+-- the corner above that at place i: on the right the next one, on the left the one before; and that there is such a place
+abbrev pub above : Side → ℕ → ℕ
+above Left i = i - 1
+above Right i = i + 1
+
+abbrev pub CanRise : Side → ℕ → Type 0
+CanRise Left i = 0 < i
+CanRise Right i = i + 1 < 2 ^ 64
+
+-- the edge of a side from place `low` up to place `high` crosses row y, or ends below it
+abbrev pub Nears : Side → List ℕ → ℕ → ℕ → ℕ → ℕ → Type 0
+Nears Left corners peak y low high = FallsFrom corners peak y high × (low ≡ high + 1)
+Nears Right corners peak y low high = RisesFrom corners peak y low × (high ≡ low + 1)
+
 -- the edge that rises from the first row
 pub record FirstRises (corners : List ℕ) (peak i : ℕ) : Type 0 where
   pub before : i < peak
@@ -115,6 +131,10 @@ unit = 4294967296
 
 abbrev pub moved : ℕ
 moved = 4294950912
+
+abbrev pub move_of : Side → ℕ
+move_of Left = moved
+move_of Right = 0
 
 -- how many parts further an edge from a up to b is in each row, SIDE columns added, rounded up; and where it is in row y
 abbrev pub slope_of : ℕ → ℕ → ℕ
@@ -140,15 +160,17 @@ pub record Only (corner : ℕ) (e : Edge) : Type 0 where
 
 -- the edge that rises across row y, and the one that falls
 pub record Rising (corners : List ℕ) (peak y : ℕ) (e : Edge) : Type 0 where
-  pub before : e.place < peak
-  pub rises : Rises corners y e.place
-  pub climbs : Climbs (get_or corners e.place 0) (get_or corners (e.place + 1) 0) y 0 e
+  pub place : ℕ
+  pub top : e.top ≡ place + 1
+  pub before : place < peak
+  pub rises : Rises corners y place
+  pub climbs : Climbs (get_or corners place 0) (get_or corners (place + 1) 0) y 0 e
 
 pub record Falling (corners : List ℕ) (peak y : ℕ) (e : Edge) : Type 0 where
   pub end : ℕ
-  pub behind : peak ≤ e.place
-  pub falls : Falls corners y e.place end
-  pub climbs : Climbs end (get_or corners e.place 0) y moved e
+  pub behind : peak ≤ e.top
+  pub falls : Falls corners y e.top end
+  pub climbs : Climbs end (get_or corners e.top 0) y moved e
 
 -- the sides of the hull in row y
 pub record OnRight (corners : List ℕ) (peak y : ℕ) (e : Edge) : Type 0 where
@@ -159,13 +181,25 @@ pub record OnLeft (corners : List ℕ) (peak y : ℕ) (e : Edge) : Type 0 where
   pub tall : Tall corners peak → Falling corners peak y e
   pub only : (Tall corners peak → ⊥) → Only (get_or corners 0 0) e
 
+abbrev pub OnSide : Side → List ℕ → ℕ → ℕ → Edge → Type 0
+OnSide Left = OnLeft
+OnSide Right = OnRight
+
 pub record Crosses (corners : List ℕ) (peak y : ℕ) (c : Crossing) : Type 0 where
   pub left : OnLeft corners peak y c.left
   pub right : OnRight corners peak y c.right
 
 -- the edge one row further; whether both cross the row after y as well
 abbrev pub stepped : Edge → Edge
-stepped e = record { place = e.place; last = e.last; position = e.position + e.slope; slope = e.slope }
+stepped e = record { top = e.top; last = e.last; position = e.position + e.slope; slope = e.slope }
 
 abbrev pub GoesOn : Crossing → ℕ → Type 0
 GoesOn c y = (y < c.left.last) × (y < c.right.last)
+
+-- ---- the rows gone through
+-- the rows from y on up to the last are still ahead, and the crossing is that of row y
+pub record Following (corners : List ℤ) (peak last y : ℕ) (c : Crossing) : Type 0 where
+  pub last_is : last ≡ last_row corners peak
+  pub has_first : HasRow corners peak (first_row corners)
+  pub from : first_row corners ≤ y
+  pub here : y ≤ last_row corners peak → Crosses (keys_of corners) peak y c

@@ -2,10 +2,12 @@
 // The corners are read where they stand, as numbers.
 #![tactic(auto)]
 
-ghost use Rattle.std.specs.Prelude.{◌≡◌, length, get_or, suc, ◌+◌, ◌*◌, ◌≤◌, ◌<◌};
+ghost use Rattle.std.specs.Prelude.{◌≡◌, get_or, ◌+◌, ◌-◌, ◌*◌, ◌≤◌, ◌<◌};
 ghost use Rattle.packed.specs.Packed.{Tells, side};
 ghost use Rattle.packed.specs.Corners.{keys_of};
-ghost use Rattle.stretch.specs.Stretch.{Bounded, Way, HasRow, first_row, last_row, Tall, Rises, RisesFrom, Falls, FallsFrom, unit, column_of, Climbs, Only, FirstRises, OnRight, OnLeft, Crosses, stepped, GoesOn};
+ghost use Rattle.stretch.specs.Stretch.{Bounded, Way, HasRow, first_row, last_row, Tall, unit, column_of, above, move_of, CanRise, Climbs, Only, FirstRises, OnSide, Crosses, stepped, GoesOn};
+
+use std::marker::Model;
 
 // Columns moved to start at 0, from `from` to below `to`.
 #[derive(Clone, Copy)]
@@ -14,75 +16,137 @@ pub struct Stretch {
     pub to: u32,
 }
 
-// An edge that crosses a row: the place of the corner from which it goes, the last row that it crosses, where it crosses this row, and how
-// far it goes from row to row. Both are parts of a column, with SIDE columns added for each row, so that none is below zero.
+impl Stretch {
+    // How many columns it has.
+    pub fn width(self) -> usize
+        requires { self.from ≤ self.to }
+        ensures { result ≡ self.to - self.from }
+    {
+        (self.to - self.from) as usize
+    }
+}
+
+// The parts of a column. A slope is rounded up to the next part, and as no edge has more than SIDE rows, what that adds never makes up the
+// least by which an edge misses a column: a part in SIDE of it.
+const UNIT: u64 = 1 << 32;
+
+// How far the left side is moved: a column of which any part is left of the edge is not in the hull.
+const MOVED: u64 = UNIT - packed::SIDE as u64;
+
+// The sides of a hull, each followed upwards from corner to corner: on the left the corner list goes down, so it is followed back.
 #[derive(Clone, Copy)]
-pub struct Edge {
-    pub place: usize,
-    pub last: u32,
-    pub position: u64,
-    pub slope: u64,
+enum Side {
+    Left,
+    Right,
+}
+
+impl Side {
+    // The place of the corner above another.
+    fn above(self, place: usize) -> usize
+        requires { CanRise self place }
+        ensures { result ≡ above self place }
+    {
+        match self {
+            Side::Left => place - 1,
+            Side::Right => place + 1,
+        }
+    }
+
+    // How far the side is moved to the right, in parts of a column.
+    fn moved(self) -> u64
+        ensures { result ≡ move_of self }
+    {
+        match self {
+            Side::Left => MOVED,
+            Side::Right => 0,
+        }
+    }
+}
+
+// An edge that crosses a row: the place of its upper corner, the last row that it crosses, where it crosses this row, and how far it goes
+// from row to row. Both are parts of a column, with SIDE columns added for each row, so that none is below zero.
+#[derive(Clone, Copy)]
+struct Edge {
+    top: usize,
+    last: u32,
+    position: u64,
+    slope: u64,
+}
+
+impl Edge {
+    // The edge from the corner at place `low` up to that at `high`, in row y.
+    fn climb(side: Side, corners: &[i32], low: usize, high: usize, y: u32) -> Self
+        requires { Way corners.now low high y }
+        ensures { (result.top ≡ high) × Climbs (get_or (keys_of corners.now) low 0) (get_or (keys_of corners.now) high 0) y (move_of side) result }
+    {
+        let first = packed::row_at(corners, low);
+        let last = packed::row_at(corners, high);
+        let column = packed::column_at(corners, low) as u64;
+        let height = (last - first) as u64;
+        let growth = packed::column_at(corners, high) as u64 + packed::SIDE as u64 * height
+            - column;
+        let slope = growth * UNIT / height + 1;
+        Self {
+            top: high,
+            last,
+            position: column * UNIT + side.moved() + slope * (y - first) as u64,
+            slope,
+        }
+    }
+
+    // A corner of a hull that has one row.
+    fn only(column: u32, row: u32) -> Self
+        requires { column < side }
+        ensures { Only (side * row + column) result }
+    {
+        Self {
+            top: 0,
+            last: row,
+            position: column as u64 * UNIT,
+            slope: 0,
+        }
+    }
+
+    // One row further.
+    fn step(&mut self)
+        requires { self.old.position + self.old.slope < unit * unit }
+        ensures { self.new ≡ stepped self.old }
+    {
+        self.position += self.slope;
+    }
+
+    // On to the row after y: the same edge one row further, or where it has ended the next of its side that reaches so far.
+    // That the search ends is known by `peak`, which only the contract names.
+    fn advance(&mut self, side: Side, corners: &[i32], peak: usize, y: u32)
+        requires { HasRow corners.now peak y × (y < last_row corners.now peak) × OnSide side (keys_of corners.now) peak y self.old }
+        ensures { OnSide side (keys_of corners.now) peak (y + 1) self.new }
+    {
+        if y < self.last {
+            self.step();
+            return;
+        }
+        let mut low = self.top;
+        let mut high = side.above(low);
+        while packed::row_at(corners, high) <= y {
+            low = high;
+            high = side.above(high);
+        }
+        *self = Self::climb(side, corners, low, high, y + 1);
+    }
+
+    // The column that it crosses.
+    fn column(&self) -> u32
+        ensures { result ≡ column_of self.now }
+    {
+        (self.position / UNIT) as u32 % packed::SIDE
+    }
 }
 
 // The edges that cross a row: the hull lies between them.
 #[derive(Clone, Copy)]
-pub struct Crossing {
-    pub left: Edge,
-    pub right: Edge,
-}
-
-const SIDE: u32 = 16384;
-
-// The parts of a column. A slope is rounded up to the next part, and as no edge has more than SIDE rows, what that adds never makes up the
-// least by which an edge misses a column: a part in SIDE of it.
-const UNIT: u64 = 4294967296;
-
-// How far the left side is moved: a column of which any part is left of the edge is not in the hull.
-const MOVED: u64 = 4294950912;
-
-// The edge from the corner at place `low` up to that at `high`, in row y.
-fn climb(corners: &[i32], place: usize, low: usize, high: usize, y: u32, moved: u64) -> Edge
-    requires { Way corners.now low high y × (moved < unit) }
-    ensures { (result.place ≡ place) × Climbs (get_or (keys_of corners.now) low 0) (get_or (keys_of corners.now) high 0) y moved result }
-{
-    let first = packed::row_at(corners, low);
-    let last = packed::row_at(corners, high);
-    let column = packed::column_at(corners, low) as u64;
-    let height = (last - first) as u64;
-    let growth = packed::column_at(corners, high) as u64 + 16384 * height - column;
-    let slope = growth * UNIT / height + 1;
-    Edge {
-        place,
-        last,
-        position: column * UNIT + moved + slope * (y - first) as u64,
-        slope,
-    }
-}
-
-// The same edge one row further.
-fn step(edge: Edge) -> Edge
-    requires { edge.position + edge.slope < unit * unit }
-    ensures { result ≡ stepped edge }
-{
-    Edge {
-        place: edge.place,
-        last: edge.last,
-        position: edge.position + edge.slope,
-        slope: edge.slope,
-    }
-}
-
-// A corner of a hull that has one row.
-fn only(column: u32, row: u32) -> Edge
-    requires { column < side }
-    ensures { Only (side * row + column) result }
-{
-    Edge {
-        place: 0,
-        last: row,
-        position: column as u64 * UNIT,
-        slope: 0,
-    }
+struct Crossing {
+    left: Edge,
+    right: Edge,
 }
 
 // The first rising edge: the second where the first lies in its row.
@@ -91,138 +155,140 @@ fn first_rising(corners: &[i32], peak: usize) -> usize
     ensures { FirstRises (keys_of corners.now) peak result }
 {
     if packed::row_at(corners, 0) == packed::row_at(corners, 1) {
-        return 1;
-    }
-    0
-}
-
-// Both sides in the first row, of a hull whose last row the caller has as well.
-pub fn start(corners: &[i32], peak: usize, y: u32, last: u32) -> Crossing
-    requires { HasRow corners.now peak (first_row corners.now) × (y ≡ first_row corners.now) × (last ≡ last_row corners.now peak) }
-    ensures { Crosses (keys_of corners.now) peak y result }
-{
-    if y == last {
-        return Crossing {
-            left: only(packed::column_at(corners, 0), y),
-            right: only(packed::column_at(corners, peak), y),
-        };
-    }
-    let rising = first_rising(corners, peak);
-    let falling = corners.len() / 2 - 1;
-    Crossing {
-        left: climb(corners, falling, 0, falling, y, MOVED),
-        right: climb(corners, rising, rising, rising + 1, y, 0),
+        1
+    } else {
+        0
     }
 }
 
-// The rising edge that crosses row y, looked for from one that may end below it.
-fn rising(corners: &[i32], peak: usize, y: u32, near: usize) -> usize
-    requires { HasRow corners.now peak y × RisesFrom (keys_of corners.now) peak y near }
-    ensures { (result < peak) × Rises (keys_of corners.now) y result }
-{
-    let mut i = near;
-    while packed::row_at(corners, i + 1) < y {
-        i += 1;
-    }
-    i
-}
-
-// The falling edge that crosses it.
-fn falling(corners: &[i32], peak: usize, y: u32, near: usize) -> usize
-    requires { HasRow corners.now peak y × FallsFrom (keys_of corners.now) peak y near }
-    ensures { (peak ≤ result) × (suc result < length (keys_of corners.now)) × Falls (keys_of corners.now) y result (get_or (keys_of corners.now) (result + 1) 0) }
-{
-    let mut i = near;
-    while packed::row_at(corners, i) < y {
-        i -= 1;
-    }
-    i
-}
-
-// The right side in the row after y: the same edge, or where it has ended the next one.
-fn next_right(corners: &[i32], peak: usize, y: u32, edge: Edge) -> Edge
-    requires { HasRow corners.now peak y × (y < last_row corners.now peak) × OnRight (keys_of corners.now) peak y edge }
-    ensures { OnRight (keys_of corners.now) peak (y + 1) result }
-{
-    if y < edge.last {
-        return step(edge);
-    }
-    let i = rising(corners, peak, y + 1, edge.place + 1);
-    climb(corners, i, i, i + 1, y + 1, 0)
-}
-
-// The left side.
-fn next_left(corners: &[i32], peak: usize, y: u32, edge: Edge) -> Edge
-    requires { HasRow corners.now peak y × (y < last_row corners.now peak) × OnLeft (keys_of corners.now) peak y edge }
-    ensures { OnLeft (keys_of corners.now) peak (y + 1) result }
-{
-    if y < edge.last {
-        return step(edge);
-    }
-    let i = falling(corners, peak, y + 1, edge.place - 1);
-    climb(corners, i, i + 1, i, y + 1, MOVED)
-}
-
-// Whether both edges cross the row after y as well.
-pub fn goes_on(crossing: Crossing, y: u32) -> bool
-    ensures { Tells result (GoesOn crossing y) }
-{
-    if y < crossing.left.last {
-        if y < crossing.right.last {
-            return true;
+impl Crossing {
+    // Both sides in the first row.
+    fn start(corners: &[i32], peak: usize, y: u32) -> Self
+        requires { HasRow corners.now peak (first_row corners.now) × (y ≡ first_row corners.now) }
+        ensures { Crosses (keys_of corners.now) peak y result }
+    {
+        if y == packed::row_at(corners, peak) {
+            Self {
+                left: Edge::only(packed::column_at(corners, 0), y),
+                right: Edge::only(packed::column_at(corners, peak), y),
+            }
+        } else {
+            let rising = first_rising(corners, peak);
+            Self {
+                left: Edge::climb(Side::Left, corners, 0, corners.len() / 2 - 1, y),
+                right: Edge::climb(Side::Right, corners, rising, rising + 1, y),
+            }
         }
     }
-    false
-}
 
-// Both edges one row further. What most rows take: so the callers test whether it goes on, and what happens at a corner stands apart.
-pub fn further(crossing: Crossing) -> Crossing
-    requires { (crossing.left.position + crossing.left.slope < unit * unit) × (crossing.right.position + crossing.right.slope < unit * unit) }
-    ensures { result ≡ record { left = stepped crossing.left; right = stepped crossing.right } }
-{
-    Crossing {
-        left: step(crossing.left),
-        right: step(crossing.right),
+    // Whether both edges cross the row after y as well.
+    fn goes_on(&self, y: u32) -> bool
+        ensures { Tells result (GoesOn self.now y) }
+    {
+        y < self.left.last && y < self.right.last
+    }
+
+    // Both edges one row further.
+    fn step(&mut self)
+        requires { (self.old.left.position + self.old.left.slope < unit * unit) × (self.old.right.position + self.old.right.slope < unit * unit) }
+        ensures { self.new ≡ record { left = stepped self.old.left; right = stepped self.old.right } }
+    {
+        self.left.step();
+        self.right.step();
+    }
+
+    // On to the row after y, if the hull has it, where an edge may have ended: all rows together take as many steps as there are rows and corners.
+    #[inline(never)]
+    fn pass_corner(&mut self, corners: &[i32], peak: usize, y: u32)
+        requires { HasRow corners.now peak y × Crosses (keys_of corners.now) peak y self.old }
+        ensures { y < last_row corners.now peak → Crosses (keys_of corners.now) peak (y + 1) self.new }
+    {
+        if y < packed::row_at(corners, peak) {
+            self.left.advance(Side::Left, corners, peak, y);
+            self.right.advance(Side::Right, corners, peak, y);
+        }
+    }
+
+    // On to the row after y, if the hull has it. In most rows both edges go on, so what happens at a corner stands apart.
+    fn advance(&mut self, corners: &[i32], peak: usize, y: u32)
+        requires { HasRow corners.now peak y × Crosses (keys_of corners.now) peak y self.old }
+        ensures { y < last_row corners.now peak → Crosses (keys_of corners.now) peak (y + 1) self.new }
+    {
+        if self.goes_on(y) {
+            self.step();
+        } else {
+            self.pass_corner(corners, peak, y);
+        }
+    }
+
+    // The columns of the row between both sides, none if these pass each other.
+    fn across(&self) -> Stretch
+        ensures { Bounded (column_of self.now.left) (column_of self.now.right + 1) result }
+    {
+        let to = self.right.column() + 1;
+        Stretch {
+            from: self.left.column().min(to),
+            to,
+        }
     }
 }
 
-// Both sides in the row after y, if that is not the last: all rows together take as many steps as there are rows and corners.
-pub fn past_corner(corners: &[i32], peak: usize, last: u32, y: u32, crossing: Crossing) -> Crossing
-    requires { HasRow corners.now peak y × (last ≡ last_row corners.now peak) × Crosses (keys_of corners.now) peak y crossing }
-    ensures { y < last_row corners.now peak → Crosses (keys_of corners.now) peak (y + 1) result }
-{
-    if last <= y {
-        return crossing;
-    }
-    Crossing {
-        left: next_left(corners, peak, y, crossing.left),
-        right: next_right(corners, peak, y, crossing.right),
+// The rows of a hull from that of its first corner to that of its last, each with the columns in which the hull has points of it.
+#[derive(Drop)]
+pub struct Rows<'a> {
+    corners: &'a [i32],
+    peak: usize,
+    last: u32,
+    y: u32,
+    crossing: Crossing,
+}
+
+impl<'a> Model for Rows<'a> {
+    ghost use Rattle.stretch.specs.Ahead.{Ahead};
+
+    ghost Value = { Ahead };
+
+    ghost use Rattle.stretch.specs.Stretch.{Following};
+
+    ghost view = { λ r. record { corners = r.corners.now; peak = r.peak; y = r.y } };
+
+    ghost invariant = { λ r. Following r.corners.now r.peak r.last r.y r.crossing };
+}
+
+impl<'a> Rows<'a> {
+    // All rows of a corner list's hull. Its last corner in row order stands at place `peak`.
+    pub fn new(corners: &'a [i32], peak: usize) -> Self
+        requires { HasRow corners.now peak (first_row corners.now) }
+        ensures { result ≡ record { corners = corners.now; peak = peak; y = first_row corners.now } }
+    {
+        let y = packed::row_at(corners, 0);
+        Self {
+            corners,
+            peak,
+            last: packed::row_at(corners, peak),
+            y,
+            crossing: Crossing::start(corners, peak, y),
+        }
     }
 }
 
-// The column that an edge crosses.
-fn column(edge: Edge) -> u32
-    ensures { result ≡ column_of edge }
-{
-    (edge.position / UNIT) as u32 % SIDE
-}
+impl Iterator for Rows<'_> {
+    ghost use Rattle.stretch.specs.Ahead.{NextRow, rows_left};
 
-// The columns from `begin` to below `end`, none if these pass each other.
-fn between(begin: u32, end: u32) -> Stretch
-    ensures { Bounded begin end result }
-{
-    if end < begin {
-        return Stretch { from: end, to: end };
-    }
-    Stretch {
-        from: begin,
-        to: end,
-    }
-}
+    type Item = (u32, Stretch);
 
-// The columns of the row between both sides.
-pub fn across(crossing: Crossing) -> Stretch
-    ensures { Bounded (column_of crossing.left) (column_of crossing.right + 1) result }
-{
-    between(column(crossing.left), column(crossing.right) + 1)
+    ghost next_gives = { NextRow };
+
+    ghost remaining = { rows_left };
+
+    #[inline(always)]
+    fn next(&mut self) -> Option<(u32, Stretch)> {
+        if self.last < self.y {
+            return None;
+        }
+        let row = (self.y, self.crossing.across());
+        self.crossing.advance(self.corners, self.peak, self.y);
+        self.y += 1;
+        Some(row)
+    }
 }

@@ -11,14 +11,13 @@ use Rattle.lattice.specs.Point.{Point, points, point, In, Before, column, Lists}
 use Rattle.lattice.proofs.Lists.{either}
 use Rattle.lattice.proofs.Places.{lt_or_le, nowhere, place_in, in_place}
 use Rattle.lattice.proofs.Rooms.{holding_next}
-use Rattle.lattice.proofs.RowLists.{lists_fewer}
 use Rattle.lattice.proofs.SameMembers.{lists_one, lists_append}
 use Rattle.packed.specs.Packed.{side, placed}
 use Rattle.packed.proofs.RowOrder.{placed_order, placed_injective}
 use Rattle.stretch.specs.Stretch.{cell, Within}
 use Rattle.stretch.specs.declared.Stretch.{Stretch}
 use Rattle.walk.specs.Walk.{column_at, RowPoints, Gap, Across, Takes, Puts}
-use Rattle.walk.proofs.Lending.{puts_length, puts_used}
+use Rattle.walk.proofs.Lending.{puts_used}
 
 -- the i-th point of the row is in column x
 abbrev pub Held : List ℤ → ℕ → ℕ → Type 0
@@ -162,15 +161,6 @@ module _ (row : List ℤ) (s : Stretch) (y : ℕ) (h : RowPoints row s y) where
           (gap_wider row s y x (x + 1) (omega arith)) (λ p e. subst (Gap row (until s (x + 1)) y) (sym e) gap)
           (gap_before row s y x) g.puts.0 (cell x y ∷ []) g.puts.1 (lists_one (cell x y))
 
-      pub gapping_room : Takes (Gap row s y) room₀ → 2 * used + 1 < length room₀
-      gapping_room t = omega (
-        arith,
-        lists_fewer (Gap row (until s (x + 1)) y) (Gap row s y) (gap_wider row s y (x + 1) s.to (omega arith)) (g.puts.0 ++ cell x y ∷ []) t.0 more t.1,
-        length-append g.puts.0 (cell x y ∷ []),
-        g.puts.2,
-        t.2,
-      )
-
       pub gapping_gap : 2 * used + 1 < length room₀ → (a b : ℤ) → a ≡ placed x → b ≡ placed y
           → Gapping row s y (x + 1) i (used + 1) room₀ (set (set room (2 * used) a) (2 * used + 1) b)
       gapping_gap wide a b e f = record {
@@ -188,9 +178,6 @@ module _ (row : List ℤ) (s : Stretch) (y : ℕ) (h : RowPoints row s y) where
 
     pub until_gap : (p : Point) → Gap row (until s x) y p → Gap row s y p
     until_gap = gap_wider row s y x s.to g.to
-
-    pub gapping_length : Takes (Gap row s y) room₀ → length room ≡ length room₀
-    gapping_length t = puts_length (Gap row (until s x) y) (Gap row s y) until_gap room₀ t used room g.puts
 
     pub gapping_used : Takes (Gap row s y) room₀ → 2 * used ≤ length room
     gapping_used t = puts_used (Gap row (until s x) y) (Gap row s y) until_gap room₀ t used room g.puts

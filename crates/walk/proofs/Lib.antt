@@ -5,4 +5,5 @@ pub mod Rows
 pub mod Gaps
 pub mod Filling
 pub mod Walking
+pub mod Along
 pub mod Loops

@@ -196,20 +196,23 @@ module _ {corners list : List ℤ} (w : Walked corners list) {peak : ℕ} (g : P
                 let c : a.column ≡ n = placed_injective a.column n (ap (λ z. z.x) (sym a.here ∙ q)) in
                 omega (arith, c, a.within.from)
 
-        pub searching_found : x < s.to → (Held row_of (x - s.from) x → ⊥) → FirstOf (Lacking corners list) (side * y + x)
-        searching_found l n = record {
-          upto = omega (arith, l, f.few, u, last_row_lem w.outline g);
-          here = λ _. subst (Lacking corners list) (sym (at_cell x y (omega (arith, l, f.few))))
-              (gap_lacking w y begin end s f k (cell x y) (record {
-                column = x;
-                within = record { from = h.from; to = l };
-                here = refl;
-                lacks = gap_here row_of s y (row_is w y begin end s f k) x (x - s.from) h.passed n;
-              })).0;
-          earlier = λ i a b. either (lt_or_le (i / side) y) (λ m. d.none (unpacked i) (b, placed_order (i / side) y m))
-              (λ m. let e : i / side ≡ y = omega (arith, a, l, f.few) in
-              none_before (unpacked i) b (ap placed e) (i % side) (ap (λ z. record { x = placed (i % side); y = placed z }) e) (omega (arith, a, e)));
-        }
+        pub searching_found : x < s.to → (Held row_of (x - s.from) x → ⊥) → (side * y + x < cells) × FirstOf (Lacking corners list) (side * y + x)
+        searching_found l n = let small : side * y + x < cells = omega (arith, l, f.few, u, last_row_lem w.outline g) in (
+          small,
+          record {
+            upto = omega (arith, small);
+            here = λ _. subst (Lacking corners list) (sym (at_cell x y (omega (arith, l, f.few))))
+                (gap_lacking w y begin end s f k (cell x y) (record {
+                  column = x;
+                  within = record { from = h.from; to = l };
+                  here = refl;
+                  lacks = gap_here row_of s y (row_is w y begin end s f k) x (x - s.from) h.passed n;
+                })).0;
+            earlier = λ i a b. either (lt_or_le (i / side) y) (λ m. d.none (unpacked i) (b, placed_order (i / side) y m))
+                (λ m. let e : i / side ≡ y = omega (arith, a, l, f.few) in
+                none_before (unpacked i) b (ap placed e) (i % side) (ap (λ z. record { x = placed (i % side); y = placed z }) e) (omega (arith, a, e)));
+          },
+        )
 
         pub searching_all : s.to ≤ x → Searched corners list (last_row corners peak) (y + 1) end
         searching_all l = record {

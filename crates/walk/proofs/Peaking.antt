@@ -8,7 +8,6 @@ use Rattle.lattice.proofs.Lists.{either}
 use Rattle.lattice.proofs.Places.{lt_or_le, nowhere}
 use Rattle.packed.specs.Corners.{Cornered}
 use Rattle.packed.proofs.Corners.{no_dip}
-use Rattle.stretch.specs.Stretch.{Peak}
 
 -- no corner before `low` is later than that at `low`, none behind `high` than that at `high`
 pub record Peaking (corners : List ℕ) (low high : ℕ) : Type 0 where
@@ -51,12 +50,3 @@ module _ {corners : List ℕ} {low high : ℕ} (p : Peaking corners low high) wh
             either (lt_or_le (middle + 1) j)
             (λ u. no_dip h middle (middle + 1) j (omega arith) u m f (omega (arith, a)))
             (λ u. let e : j ≡ middle + 1 = omega arith in omega (arith, a, f, ap (λ n. get_or corners n 0) e))
-
-  pub peaking_ends : high ≤ low → Peak corners low
-  peaking_ends u = record {
-    inside = omega (arith, p.rising, p.inside);
-    greatest = λ j l. let e : high ≡ low = omega (arith, p.rising) in
-        either (lt_or_le j low) (λ v. p.before j v)
-        (λ v. either (lt_or_le high j) (λ w. omega (arith, p.behind j w l, ap (λ n. get_or corners n 0) e))
-        (λ w. let d : j ≡ low = omega arith in omega (arith, ap (λ n. get_or corners n 0) d)));
-  }

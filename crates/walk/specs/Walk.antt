@@ -1,6 +1,6 @@
 -- The lattice points of a hull that a list in row order lacks: the first of them, all of them. Report lacks the points of the
 -- grain, Rebuild the missing points. Assumes nothing.
-use Rattle.std.specs.Prelude.{◌≡◌, ◌⊎◌, List, [], ℕ, ◌+◌, ◌*◌, ◌-◌, ◌≤◌, ◌<◌, length, ℤ}
+use Rattle.std.specs.Prelude.{◌≡◌, ◌⊎◌, Option, Some, None, List, [], ℕ, ◌+◌, ◌*◌, ◌-◌, ◌≤◌, ◌<◌, length, ℤ}
 use Rattle.lattice.specs.Point.{Point, points, point, In, All, Pairs, Before, Lists}
 use Rattle.lattice.specs.Hull.{InHull, Of, Kept}
 use Rattle.lattice.specs.Room.{holding}
@@ -24,6 +24,11 @@ pub record FirstOf (P : Point → Type 0) (r : ℕ) : Type 0 where
   pub upto : r ≤ cells
   pub here : r < cells → P (unpacked r)
   pub earlier : (k : ℕ) → k < r → P (unpacked k) → ⊥
+
+-- that point, if there is one
+abbrev pub FirstIn : (Point → Type 0) → Option ℕ → Type 0
+FirstIn P None = FirstOf P cells
+FirstIn P (Some k) = (k < cells) × FirstOf P k
 
 -- a room with place for all points that have P; such a room with them at its front, and how many they are
 abbrev pub Takes : (Point → Type 0) → List ℤ → Type 0

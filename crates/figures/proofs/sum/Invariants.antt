@@ -1,0 +1,7 @@
+-- The coordinates of the points before this one are summed. Assumes nothing.
+use Rattle.lattice.specs.Point.{points}
+use Rattle.figures.proofs.Summing.{Summed}
+use Rattle.figures.proofs.sum.Given as goal
+
+abbrev pub invariant-loop-i : goal.invariant-loop-i
+invariant-loop-i l = Summed l.coordinate (points l.list) l.i l.total

@@ -1,2 +1,0 @@
--- How a buffer is filled from its front.
-pub mod Filling

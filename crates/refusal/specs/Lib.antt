@@ -1,0 +1,2 @@
+-- The number and the place of each refusal.
+pub mod Number
