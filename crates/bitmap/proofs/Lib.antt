@@ -3,3 +3,4 @@ pub mod Pictures
 pub mod Pinned
 pub mod Accepted
 pub mod Example
+pub mod Told

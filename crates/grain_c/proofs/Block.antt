@@ -1,4 +1,4 @@
--- The struct of Figures says what the answer says: any two outcomes that `grain_figures` allows coincide. Assumes nothing.
+-- Any two outcomes that `grain_figures` allows coincide, struct and rooms. Assumes nothing.
 use mathlib.Core.Path.{◌≡◌, sym, ◌∙◌, ap}
 use mathlib.Core.List.{List}
 use lib.IntN.{ℤ}
@@ -8,6 +8,7 @@ use Rattle.figures.proofs.Promised.{figures_pinned}
 use Rattle.grain_c.specs.declared.Figures.{Figures}
 use Rattle.grain_c.specs.Block.{block_of, FiguresBlockPromise}
 
+-- the struct of an answer is one that Figures may have for other languages
 pub block_told : (list ordered corners ordered' corners' : List ℤ) (answer told : Figured) → answer ≡ told
     → FiguresPromise list ordered corners answer ordered' corners' → FiguresBlockPromise list ordered corners (block_of told) ordered' corners'
 block_told list ordered corners ordered' corners' answer told e h = record { answer = answer; promised = h; block_is = sym (ap block_of e) }

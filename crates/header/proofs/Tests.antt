@@ -12,6 +12,10 @@ use Rattle.header.specs.Bytes.{line_end, hash, digit}
 abbrev pub Ends : ℕ → Type 0
 Ends b = (b ≡ 10) ⊎ (b ≡ 13)
 
+pub line_end_lem : (b : ℕ) → Ends b → line_end b ≡ true
+line_end_lem b (inl e) = rw e
+line_end_lem b (inr e) = rw e
+
 pub line_end_no_hash : (b : ℕ) → Ends b → b ≡ hash → ⊥
 line_end_no_hash b (inl e) h = omega arith
 line_end_no_hash b (inr e) h = omega arith

@@ -3,7 +3,7 @@ use mathlib.Core.Path.{◌≡◌, refl, sym, ◌∙◌, ap, subst}
 use mathlib.Core.Bool.{Bool, true, false}
 use mathlib.Core.Logic.{◌⊎◌, inl, inr}
 use mathlib.Core.List.{List, map}
-use Prim.Native.Nat.{ℕ, zero, suc, ◌+◌, ◌*◌, ◌/◌, ◌≤◌}
+use Prim.Native.Nat.{ℕ, zero, suc, ◌+◌, ◌/◌, ◌≤◌}
 use native.Mathlib.Omega.{arith}
 use lib.Dec.{ltb}
 use borrow.Author.Tests.{ltb-true, ltb-false}
@@ -14,31 +14,22 @@ use Rattle.lattice.specs.Point.{Point, InRange, points, Lists}
 use Rattle.lattice.specs.Hull.{InHull, Of, CornerList, Missing, MissingList}
 use Rattle.lattice.specs.Refusal.{Table, accepted, ◌when◌else◌, Gives, Whole, list_rows}
 use Rattle.lattice.specs.Room.{holding, TooSmall}
-use Rattle.lattice.proofs.Lists.{either, all_in}
+use Rattle.lattice.proofs.Lists.{all_in}
 use Rattle.lattice.proofs.Frame.{hull_in_range}
-use Rattle.lattice.proofs.Places.{lt_or_le}
 use Rattle.lattice.proofs.Refusals.{gives_unique}
 use Rattle.lattice.proofs.SameMembers.{lists_unique, lists_same}
 use Rattle.lattice.proofs.MissingLists.{missing_list_exists, missing_count, hull_list_exists}
 use Rattle.lattice.proofs.CornerLists.{corner_list_unique, corner_list_same, corner_list_of_some, hull_of_corners}
-use Rattle.lattice.proofs.Tables.{declined_before, passed_before, first_or_later, whole_first, whole_never, Passes, list_passes}
+use Rattle.lattice.proofs.Tables.{passed_before, first_or_later, whole_first, whole_never, Passes, list_passes}
 use Rattle.packed.specs.Packed.{Tells, cells, unpacked}
-use Rattle.packed.specs.Keys.{Below}
 use Rattle.packed.proofs.KeyLaws.{lists_small, packed_hull_range}
 use Rattle.packed.specs.Corners.{HullOf, Cornered as PackedCorners, CountOf}
 use Rattle.order.specs.declared.Ordered.{Ordered}
-use Rattle.order.specs.Found.{Finds}
 use Rattle.order.proofs.Ordering.{FoundKeys}
 use Rattle.hull.specs.declared.Hulled.{Hulled}
 use Rattle.scan.specs.Scanning.{Cornered}
 use Rattle.hull.specs.Hull.{FewerThanCorners, hull_rows, Hulls, HullResult, HullPromise}
-use Rattle.hull.specs.Within.{MoreMissing, within_rows, WithinPromise, HasMore, HullKeys, FindsHull}
-
-room_enough : (room : List ℤ) (n : ℕ) → (TooSmall room n → ⊥) → n ≤ length room / 2
-room_enough room n h = either (lt_or_le (length room / 2) n) (λ l. absurd (h l)) (λ l. l)
-
-abbrev ordered_answer : ℕ → ℕ → ℕ → Ordered
-ordered_answer number place count = record { number = number; place = place; points = count }
+use Rattle.hull.specs.Within.{MoreMissing, within_rows, WithinPromise, HasMore, FindsHull}
 
 abbrev hulled_answer : ℕ → ℕ → ℕ → ℕ → Hulled
 hulled_answer number place n count = record { number = number; place = place; points = n; corners = count }
@@ -52,23 +43,9 @@ room_rows list ordered corners later =
     5 when Whole (TooSmall ordered (length (points list))) else 6 when Whole (FewerThanCorners (points list) corners) else later
 
 module _ (list ordered corners : List ℤ) (limit : ℕ) (keys stack : List ℕ) where
-  pub find_declined : (number place count : ℕ) → (number ≡ 0 → ⊥) → Finds list (ordered_answer number place count) keys
-      → FindsHull list ordered corners limit (hulled_answer number place 0 0) keys stack
-  find_declined zero place count n f = absurd (n refl)
-  find_declined (suc number) place count n f = record {
-    gives = declined_before (list_rows list accepted) (room_rows list ordered corners (missing_row list limit)) number place f.gives;
-    result = (refl, refl);
-  }
-
   module _ {answer : Ordered} (f : FoundKeys list answer keys) where
     later : (n i : ℕ) → Gives (room_rows list ordered corners (missing_row list limit)) n i → Gives (within_rows list ordered corners limit) n i
     later n i g = passed_before (list_rows list accepted) (room_rows list ordered corners (missing_row list limit)) (tt, (tt, (tt, (tt, tt)))) answer.place n i f.passed g
-
-    pub find_ordered_small : TooSmall ordered answer.points → FindsHull list ordered corners limit (hulled_answer 5 0 0 0) keys stack
-    find_ordered_small small = record {
-      gives = later 5 0 (inl (refl, whole_first (subst (TooSmall ordered) f.all small)));
-      result = (refl, refl);
-    }
 
     module _ {r : ℕ} (h : Cornered (take answer.points keys) stack r) where
       listed : CornerList (points list) (map unpacked (take r stack))
@@ -155,24 +132,10 @@ module _ (list ordered corners : List ℤ) (limit : ℕ) (keys stack : List ℕ)
           }
 
   -- ---- the rooms written
-  pub shown_points : (n count : ℕ) → HullKeys (points list) ordered corners n count keys stack → Below (take n keys) × (2 * length (take n keys) ≤ length ordered)
-  shown_points n count h =
-      (h.keys_are.below, omega (arith, length-take-le n keys h.keys_long, room_enough ordered n h.ordered_room))
-
-  pub shown_corners : (n count : ℕ) → HullKeys (points list) ordered corners n count keys stack
-      → Below (take count stack) × (2 * length (take count stack) ≤ length corners)
-  shown_corners n count h =
-      (h.stack_below, omega (arith, length-take-le count stack h.stack_long, room_enough corners count h.corner_room))
-
   pub within_declined : (number place n count : ℕ) → (number ≡ 0 → ⊥) → FindsHull list ordered corners limit (hulled_answer number place n count) keys stack
       → WithinPromise list ordered corners limit (hulled_answer number place n count) ordered corners
   within_declined zero place n count e f = absurd (e refl)
   within_declined (suc number) place n count e f = record { gives = f.gives; result = (f.result.0, f.result.1, refl, refl) }
-
-  pub accepted_keys : (number place n count : ℕ) → number ≡ 0 → FindsHull list ordered corners limit (hulled_answer number place n count) keys stack
-      → HullKeys (points list) ordered corners n count keys stack
-  accepted_keys zero place n count e f = f.result
-  accepted_keys (suc number) place n count e f = absurd (omega (arith, e))
 
   pub within_done : (number place n count : ℕ) → number ≡ 0 → FindsHull list ordered corners limit (hulled_answer number place n count) keys stack
       → (ordered' corners' : List ℤ) → (ordered' ≡ holding (map unpacked (take n keys)) ordered) × (corners' ≡ holding (map unpacked (take count stack)) corners)
@@ -258,8 +221,3 @@ hull_pinned list ordered corners a b ordered' ordered'' corners' corners'' h g =
     let r = results_equal list ordered corners b.number a.points b.points a.corners b.corners ordered' ordered'' corners' corners''
     (subst (λ n. HullResult list ordered corners n a.points a.corners ordered' corners') e.0 h.result) g.result in
     ((λ i. record { number = e.0 i; place = e.1 i; points = r.0 i; corners = r.1 i }), r.2, r.3)
-
--- the same of an equal answer
-pub find_as : {list ordered corners : List ℤ} {limit : ℕ} {keys stack : List ℕ} {a b : Hulled} → a ≡ b → FindsHull list ordered corners limit b keys stack
-    → FindsHull list ordered corners limit a keys stack
-find_as {list} {ordered} {corners} {limit} {keys} {stack} e h = subst (λ r. FindsHull list ordered corners limit r keys stack) (sym e) h

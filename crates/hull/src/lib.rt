@@ -126,6 +126,13 @@ fn within_with<const N: usize, const M: usize>(
     within_in(list, ordered, corners, missing, &mut keys, &mut stack)
 }
 
+// How many corners their stack has place for, on the way up and on the way down.
+const SMALL_STACK: usize = 2 * arrange::SMALL;
+
+const MIDDLE_STACK: usize = 2 * arrange::MIDDLE;
+
+const LARGE_STACK: usize = 2 * packed::MOST;
+
 // Hull of a grain with at most `missing` missing points; 7 for all others.
 pub fn within(
     list: &[i32],
@@ -136,9 +143,15 @@ pub fn within(
     ensures { WithinPromise list.now ordered.old corners.old missing (hulled_of result) ordered.new corners.new }
 {
     match arrange::tier(list) {
-        Space::Small => within_with::<64, 128>(list, ordered, corners, missing),
-        Space::Middle => within_with::<512, 1024>(list, ordered, corners, missing),
-        Space::Large => within_with::<4096, 8192>(list, ordered, corners, missing),
+        Space::Small => within_with::<{ arrange::SMALL }, SMALL_STACK>(
+            list, ordered, corners, missing,
+        ),
+        Space::Middle => within_with::<{ arrange::MIDDLE }, MIDDLE_STACK>(
+            list, ordered, corners, missing,
+        ),
+        Space::Large => within_with::<{ packed::MOST }, LARGE_STACK>(
+            list, ordered, corners, missing,
+        ),
     }
 }
 

@@ -1,4 +1,4 @@
--- What each way out of `find` tells: the refusals 1 to 4 of a list, or its points in row order. Assumes nothing.
+-- What the ways out of `find` for an even list tell: the refusals 2 to 4, or its points in row order. Assumes nothing.
 use mathlib.Core.Path.{◌≡◌, refl, sym, subst}
 use mathlib.Core.Logic.{inl, inr}
 use mathlib.Core.List.{List}
@@ -15,16 +15,12 @@ use Rattle.packed.specs.Keys.{KeysOf}
 use Rattle.range.specs.First.{FirstOutside}
 use Rattle.range.proofs.Passing.{first_here, never_below}
 use Rattle.arrange.specs.Arranging.{Arranges}
-use Rattle.order.specs.declared.Ordered.{Ordered}
 use Rattle.order.specs.Found.{Finds}
 
 pub all_in_range : (list : List ℤ) (r : ℕ) → FirstOutside list r → length (points list) ≤ r → All InRange (points list)
 all_in_range list r f l = within_range (points list) (never_below _ (AtPoint OutOfRange (points list)) r f (λ j p. p.0) l)
 
 module _ (list : List ℤ) (keys : List ℕ) where
-  pub finds_odd : Odd list → Finds list (record { number = 1; place = 0; points = 0 }) keys
-  finds_odd odd = record { gives = inl (refl, whole_first odd); result = refl }
-
   module _ (even : Odd list → ⊥) where
     pub finds_many : most < length (points list) → Finds list (record { number = 2; place = 0; points = 0 }) keys
     finds_many many = record { gives = inr (whole_never even, inl (refl, whole_first many)); result = refl }
@@ -54,7 +50,3 @@ module _ (list : List ℤ) (keys : List ℕ) where
           gives = behind 0 0 (inr (inside, inr (stands.apart, (refl, refl))));
           result = (full, wide, subst (λ m. KeysOf (points list) (take m keys)) (sym full) stands.order);
         }
-
--- the same of an equal answer
-pub finds_as : {list : List ℤ} {keys : List ℕ} {a b : Ordered} → a ≡ b → Finds list b keys → Finds list a keys
-finds_as {list} {keys} e h = subst (λ r. Finds list r keys) (sym e) h

@@ -2,3 +2,4 @@
 pub mod Writing
 pub mod Finding
 pub mod Ordering
+pub mod Told

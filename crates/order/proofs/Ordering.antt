@@ -1,20 +1,17 @@
--- From what `find` tells to what Order promises, and that the promise pins the outcome. Assumes nothing.
-use mathlib.Core.Path.{◌≡◌, refl, sym, ◌∙◌, ap, subst}
-use mathlib.Core.Logic.{inl, inr}
-use mathlib.Core.List.{List, map}
-use Prim.Native.Nat.{ℕ, zero, suc, ◌/◌, ◌≤◌}
-use native.Mathlib.Omega.{arith}
-use lib.ListN.{length, take, length-map}
+-- What `find` tells of an accepted list, and that the promise of Order pins the outcome. Assumes nothing.
+use mathlib.Core.Path.{◌≡◌, sym, ◌∙◌, ap, subst}
+use mathlib.Core.List.{List}
+use Prim.Native.Nat.{ℕ, zero, suc, ◌≤◌}
+use lib.ListN.{length, take}
 use lib.Seq.{length-take-le}
 use lib.IntN.{ℤ}
 use Rattle.lattice.specs.Point.{points}
 use Rattle.lattice.specs.Hull.{Of}
-use Rattle.lattice.specs.Refusal.{accepted, ◌when◌else◌, Gives, Whole, list_rows}
-use Rattle.lattice.specs.Room.{holding, TooSmall}
+use Rattle.lattice.specs.Refusal.{accepted, Gives, list_rows}
+use Rattle.lattice.specs.Room.{holding}
 use Rattle.lattice.proofs.Refusals.{gives_unique}
 use Rattle.lattice.proofs.SameMembers.{lists_unique}
-use Rattle.lattice.proofs.Tables.{declined_before, passed_before, whole_first, whole_never, list_passes}
-use Rattle.packed.specs.Packed.{unpacked}
+use Rattle.lattice.proofs.Tables.{list_passes}
 use Rattle.packed.specs.Keys.{KeysOf}
 use Rattle.arrange.specs.Space.{Measured}
 use Rattle.order.specs.declared.Ordered.{Ordered}
@@ -43,37 +40,6 @@ found_keys {list} {answer} {keys} e f =
       keys_are = r.2;
     }
 
-module _ {list : List ℤ} (room : List ℤ) {keys : List ℕ} where
-  pub order_declined : (number place count : ℕ) → (number ≡ 0 → ⊥) → Finds list (record { number = number; place = place; points = count }) keys
-      → OrderPromise list room (record { number = number; place = place; points = count }) room
-  order_declined zero place count n f = absurd (n refl)
-  order_declined (suc number) place count n f = record {
-    gives = declined_before (list_rows list accepted) (5 when Whole (TooSmall room (length (points list))) else accepted) number place f.gives;
-    result = (f.result, refl);
-  }
-
-  module _ {answer : Ordered} (f : FoundKeys list answer keys) where
-    later : (n i : ℕ) → Gives (5 when Whole (TooSmall room (length (points list))) else accepted) n i → Gives (order_rows list room accepted) n i
-    later n i g = passed_before (list_rows list accepted) (5 when Whole (TooSmall room (length (points list))) else accepted) (tt, (tt, (tt, (tt, tt)))) answer.place n i f.passed g
-
-    pub order_small : TooSmall room answer.points → OrderPromise list room (record { number = 5; place = 0; points = 0 }) room
-    order_small small = record {
-      gives = later 5 0 (inl (refl, whole_first (subst (TooSmall room) f.all small)));
-      result = (refl, refl);
-    }
-
-    pub order_done : answer.points ≤ length room / 2 → (after : List ℤ) → after ≡ holding (map unpacked (take answer.points keys)) room
-        → OrderPromise list room (record { number = 0; place = 0; points = answer.points }) after
-    order_done wide after stands = record {
-      gives = later 0 0 (inr (whole_never (λ h. omega (arith, h, wide, f.all)), (refl, refl)));
-      result = (
-        map unpacked (take answer.points keys),
-        f.keys_are.lists,
-        sym (length-map (take answer.points keys) unpacked ∙ f.long),
-        stands,
-      );
-    }
-
 -- ---- any two outcomes coincide
 results_equal : (list room : List ℤ) (number count other : ℕ) (after later : List ℤ)
     → OrderResult list room number count after → OrderResult list room number other later → (count ≡ other) × (after ≡ later)
@@ -89,7 +55,3 @@ order_pinned list room a b after later h g =
     let r = results_equal list room b.number a.points b.points after later
     (subst (λ n. OrderResult list room n a.points after) e.0 h.result) g.result in
     ((λ i. record { number = e.0 i; place = e.1 i; points = r.0 i }), r.1)
-
--- the same of an equal answer
-pub order_as : {list room after : List ℤ} {a b : Ordered} → a ≡ b → OrderPromise list room b after → OrderPromise list room a after
-order_as {list} {room} {after} e h = subst (λ r. OrderPromise list room r after) (sym e) h

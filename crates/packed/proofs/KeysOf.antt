@@ -68,9 +68,6 @@ module _ (list : List ℤ) where
 
 -- a corner list
 module _ {corners : List ℤ} (h : Outline corners) where
-  pub corner_readable : (i : ℕ) → i < length (keys_of corners) → (i < length (points corners)) × InRange (point (points corners) i)
-  corner_readable = readable corners h.range
-
   pub outline_cornered : Cornered (keys_of corners)
   outline_cornered = record {
     below = keys_below corners h.range;

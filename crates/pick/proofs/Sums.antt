@@ -26,6 +26,10 @@ use Rattle.pick.specs.Edge.{steps, gain, loss, Small, Adds}
 use Rattle.pick.proofs.Moved.{moved, twice_count_moved}
 use Rattle.pick.proofs.Pick.{pick, one_formula}
 
+-- ---- a packed corner's column
+pub column_of_lem : (x y : ℕ) → x < side → (side * y + x) % side ≡ x
+column_of_lem x y h = omega arith
+
 -- ---- an edge
 distance_is : (a b : ℕ) → nat_abs (pos b -ℤ pos a) ≡ abs_diff a b
 distance_is a b =

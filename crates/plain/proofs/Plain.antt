@@ -1,23 +1,16 @@
 -- Laws of plain pixels: one byte more. Assumes nothing.
-use mathlib.Core.Path.{◌≡◌, ◌∙◌, ap}
+use mathlib.Core.Path.{◌≡◌, ◌∙◌}
 use mathlib.Core.Bool.{Bool, true, false, cond}
 use mathlib.Core.List.{List, [], ◌∷◌}
-use Prim.Native.Nat.{ℕ, zero, suc, ◌+◌, ◌≤◌, ◌<◌}
+use Prim.Native.Nat.{ℕ, zero, suc, ◌+◌, ◌<◌}
 use native.Mathlib.Numerals.{add-one}
-use lib.ListN.{length, get_or, drop, drop_of_length-le}
+use borrow.Author.Tests.{ne_eqb}
+use lib.ListN.{length, get_or, drop}
 use lib.Seq.{drop-cons}
-use Rattle.refusal.specs.declared.Refusal.TheVariants.{PixelsEndEarly, BytesAfterPixels}
+use Rattle.refusal.specs.declared.Refusal.TheVariants.{BadPixel, BytesAfterPixels}
 use Rattle.netpbm.specs.Space.{white_space}
 use Rattle.netpbm.specs.Raster.{pixels, fault, onto}
 use Rattle.plain.specs.Plain.{plain, plain_at}
-
--- ---- past the end
-module _ (bytes : List ℕ) (i : ℕ) (outside : length bytes ≤ i) where
-  pub early : (n : ℕ) → plain_at bytes (suc n) i ≡ fault (PixelsEndEarly i)
-  early n = ap (λ l. plain l (suc n) i) (drop_of_length-le bytes outside)
-
-  pub complete : plain_at bytes 0 i ≡ pixels []
-  complete = ap (λ l. plain l 0 i) (drop_of_length-le bytes outside)
 
 -- no pixel is left behind the last
 pub none_left : (l : List ℕ) (i : ℕ) (m : List Bool) → plain l 0 i ≡ pixels m → m ≡ []
@@ -38,6 +31,13 @@ black_first b l n i e = rw e
 
 pub white_first : (b : ℕ) (l : List ℕ) (n i : ℕ) → b ≡ 48 → plain (b ∷ l) (suc n) i ≡ onto false (plain l n (suc i))
 white_first b l n i e = rw e
+
+-- a byte that is neither white space nor a pixel
+pub bad_byte_lem : (bytes : List ℕ) (i : ℕ) → i < length bytes → white_space (get_or bytes i 0) ≡ false → (get_or bytes i 0 ≡ 49 → ⊥)
+    → (get_or bytes i 0 ≡ 48 → ⊥) → (n : ℕ) → plain_at bytes (suc n) i ≡ fault (BadPixel i)
+bad_byte_lem bytes i l e m k n =
+    let first : plain_at bytes (suc n) i ≡ plain (get_or bytes i 0 ∷ drop (i + 1) bytes) (suc n) i = rw (add-one, drop-cons bytes i 0) in
+    first ∙ rw (e, ne_eqb (get_or bytes i 0) 49 m, ne_eqb (get_or bytes i 0) 48 k)
 
 -- no pixel is left, but a byte that is no white space
 pub left_over : (bytes : List ℕ) (i : ℕ) → i < length bytes → white_space (get_or bytes i 0) ≡ false → plain_at bytes 0 i ≡ fault (BytesAfterPixels i)

@@ -1,7 +1,7 @@
 // The pixels of a plain bitmap: checked and counted, by parts up to the first fault, and there one by one.
 #![tactic(auto)]
 
-ghost use Rattle.std.specs.Prelude.{◌≡◌, ◌+◌, ◌^◌, ◌<◌, IfSome};
+ghost use Rattle.std.specs.Prelude.{◌≡◌, ◌+◌, ◌^◌, ◌<◌, length, IfSome, OnErr};
 ghost use Rattle.netpbm.specs.Steps.{counted};
 ghost use Rattle.plain.specs.Plain.{plain_at};
 ghost use Rattle.plain.specs.Steps.{Skips, Fetches, bad_byte, Tallied, IsPart, Leaves};
@@ -21,7 +21,8 @@ pub struct Tally {
 
 impl Tally {
     // The bytes of a part, tallied.
-    pub fn of(part: &[u8; PART]) -> Self
+    pub fn of(part: &[u8]) -> Self
+        requires { length part.now < 256 }
         ensures { Tallied part.now result }
     {
         let mut black: u8 = 0;
@@ -67,10 +68,11 @@ impl<'a> Pixels<'a> {
         at
     }
 
-    // The next pixel, behind white space: whether it is black.
+    // The next pixel, behind white space: whether it is black. A fault leaves the place as it was.
     pub fn next(&mut self) -> Result<bool, Refusal>
         ensures same { self.new.bytes.now ≡ self.old.bytes.now }
         ensures fetches { Fetches (plain_at self.old.bytes.now) self.old.at result self.new.at }
+        ensures stays { OnErr result (self.new.at ≡ self.old.at) }
     {
         let place = self.behind_blanks();
         let black = match self.bytes.get(place) {

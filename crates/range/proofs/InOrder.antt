@@ -1,5 +1,5 @@
 -- Laws of the loop that looks whether points are in range and strictly in row order. Assumes nothing.
-use mathlib.Core.Path.{◌≡◌, refl}
+use mathlib.Core.Path.{◌≡◌}
 use mathlib.Core.Logic.{◌⊎◌, inl, inr}
 use mathlib.Core.List.{List}
 use Prim.Native.Nat.{ℕ, suc, ◌+◌, ◌≤◌, ◌<◌}
@@ -7,7 +7,7 @@ use native.Mathlib.Omega.{arith}
 use borrow.Author.Count.{below_more}
 use lib.ListN.{length}
 use Rattle.lattice.specs.Point.{Point, InRange, point, All, Pairs, Before}
-use Rattle.lattice.proofs.Places.{nowhere, all_place, place_all, pairs_place, place_pairs}
+use Rattle.lattice.proofs.Places.{all_place, place_all, pairs_place, place_pairs}
 use Rattle.packed.specs.Packed.{packed}
 use Rattle.packed.proofs.RowOrder.{packed_before, before_packed}
 
@@ -18,15 +18,6 @@ pub record Rising (l : List Point) (least i : ℕ) : Type 0 where
   pub order : (j k : ℕ) → j < k → k < i → Before (point l j) (point l k)
   pub below : (j : ℕ) → j < i → packed (point l j) < least
   pub last : (least ≡ 0) ⊎ ((j : ℕ) × (j < i) × (least ≡ suc (packed (point l j))))
-
-pub rising_none : (l : List Point) → Rising l 0 0
-rising_none l = record {
-  upto = omega arith;
-  range = λ j h. nowhere j h;
-  order = λ j k g h. nowhere k h;
-  below = λ j h. nowhere j h;
-  last = inl refl;
-}
 
 module _ (l : List Point) (least i : ℕ) (h : Rising l least i) (inside : i < length l) where
   pub rising_more : InRange (point l i) → least ≤ packed (point l i) → Rising l (packed (point l i) + 1) (i + 1)

@@ -20,9 +20,6 @@ module _ (n : ℕ) (P : ℕ → Type 0) where
   passing_none = record { upto = omega arith; clear = λ j h. nowhere j h }
 
   module _ (i : ℕ) (h : Passing n P i) where
-    pub passing_more : i < n → (P i → ⊥) → Passing n P (i + 1)
-    passing_more l c = record { upto = omega arith; clear = below_more (λ j. P j → ⊥) i h.clear c }
-
     pub passing_stops : P i → FirstBelow n P i
     passing_stops p = record { upto = h.upto; earlier = h.clear; here = λ l. p }
 

@@ -8,13 +8,6 @@ ghost use Rattle.packed.specs.Packed.{Tells};
 ghost use Rattle.range.specs.First.{FirstBelow, FirstOutside, Found};
 ghost use Rattle.range.specs.Pairs.{pairs_of, points_of};
 
-// Whether both tests passed: a loop that keeps its answer so has no branch, and goes through several points at once.
-pub fn both(a: bool, b: bool) -> bool
-    ensures { Tells result ((a ≡ true) × (b ≡ true)) }
-{
-    a & b
-}
-
 // The points of a list, each as the pair of its coordinates.
 pub fn pairs(list: &[i32]) -> &[[i32; 2]]
     ensures { result.now ≡ pairs_of list.now }

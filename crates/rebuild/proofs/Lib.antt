@@ -2,3 +2,4 @@
 pub mod Refusing
 pub mod Rebuilding
 pub mod WayBack
+pub mod Told

@@ -103,10 +103,6 @@ module _ {corners missing : List ℤ} (w : Walked corners missing) {count : ℕ}
         };
       }
 
--- the same of an equal answer
-pub foreseen_as : {t : Table} {corners missing room : List ℤ} {a b : Rebuilt} → a ≡ b → Foreseen t corners missing room b → Foreseen t corners missing room a
-foreseen_as {t} {corners} {missing} {room} e h = subst (Foreseen t corners missing room) (sym e) h
-
 -- ---- rows that decline, rows that let pass
 module _ (t later : Table) {corners missing room : List ℤ} where
   rows_decline : {a : Rebuilt} → Looks t a → (a.number ≡ 0 → ⊥) → Foreseen (t then later) corners missing room a
@@ -158,13 +154,6 @@ module _ (corners missing room : List ℤ) where
 
 -- ---- what was foreseen, written or not
 module _ {corners missing room : List ℤ} {a : Rebuilt} (h : Foreseen (rebuild_table corners missing room) corners missing room a) where
-  pub rebuilt_declined : (a.number ≡ 0 → ⊥) → RebuildPromise corners missing room a room
-  rebuilt_declined n = record { gives = h.gives; result = unwritten a.number n (h.declined n) }
-    where
-      unwritten : (number : ℕ) → (number ≡ 0 → ⊥) → a.points ≡ 0 → RebuildResult (points corners) (points missing) room number a.points room
-      unwritten zero f e = absurd (f refl)
-      unwritten (suc number) f e = (e, refl)
-
   pub rebuilt_written : a.number ≡ 0 → (r : ℕ) (after : List ℤ) → Puts (Lacking corners missing) room r after → RebuildPromise corners missing room a after
   rebuilt_written e r after (l, k, d, f) =
       let y = h.passed e in
@@ -175,17 +164,17 @@ module _ {corners missing room : List ℤ} {a : Rebuilt} (h : Foreseen (rebuild_
       }
 
 -- ---- any two outcomes coincide
-results_equal : (c m : List Point) (room : List ℤ) (number count other : ℕ) (after later : List ℤ)
-    → RebuildResult c m room number count after → RebuildResult c m room number other later → (count ≡ other) × (after ≡ later)
-results_equal c m room zero count other after later (s, h, n, w) (t, g, k, v) =
+results_equal : (c m : List Point) (room : List ℤ) (number count other : ℕ) (after after' : List ℤ)
+    → RebuildResult c m room number count after → RebuildResult c m room number other after' → (count ≡ other) × (after ≡ after')
+results_equal c m room zero count other after after' (s, h, n, w) (t, g, k, v) =
     let e = lists_unique (Kept c m) s t h g in
     (n ∙ ap length e ∙ sym k, w ∙ ap (λ l. holding l room) e ∙ sym v)
-results_equal c m room (suc number) count other after later h g = (h.0 ∙ sym g.0, h.1 ∙ sym g.1)
+results_equal c m room (suc number) count other after after' h g = (h.0 ∙ sym g.0, h.1 ∙ sym g.1)
 
 pub rebuild_pinned : (corners missing room : List ℤ) (a b : Rebuilt) (after later : List ℤ)
     → RebuildPromise corners missing room a after → RebuildPromise corners missing room b later → (a ≡ b) × (after ≡ later)
-rebuild_pinned corners missing room a b after later h g =
+rebuild_pinned corners missing room a b after after' h g =
     let e = gives_unique (rebuild_table corners missing room) a.number b.number a.place b.place h.gives g.gives in
-    let r = results_equal (points corners) (points missing) room b.number a.points b.points after later
+    let r = results_equal (points corners) (points missing) room b.number a.points b.points after after'
     (subst (λ n. RebuildResult (points corners) (points missing) room n a.points after) e.0 h.result) g.result in
     ((λ i. record { number = e.0 i; place = e.1 i; points = r.0 i }), r.1)

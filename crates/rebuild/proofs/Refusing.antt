@@ -1,5 +1,5 @@
--- From what is looked at to refusals 1, 2, 3, 8, 9 and 10. Assumes nothing.
-use mathlib.Core.Path.{◌≡◌, refl, sym, subst}
+-- From what is looked at to refusals 2, 3 and 10, and to lists and points that pass. Assumes nothing.
+use mathlib.Core.Path.{refl}
 use mathlib.Core.Logic.{◌⊎◌, inl, inr}
 use mathlib.Core.List.{List}
 use Prim.Native.Nat.{ℕ, ◌≤◌, ◌<◌}
@@ -23,17 +23,10 @@ answer number place = record { number = number; place = place; points = 0 }
 looks : {t : Table} {number place : ℕ} → Gives t number place → Looks t (answer number place)
 looks g = record { gives = g; uncounted = refl }
 
--- the same of an equal answer
-pub looks_as : {t : Table} {a b : Rebuilt} → a ≡ b → Looks t b → Looks t a
-looks_as {t} e h = subst (Looks t) (sym e) h
-
 -- ---- both lists
 module _ (corners missing : List ℤ) where
   abbrev Input : ℕ → ℕ → Type 0
   Input number place = Looks (input_rows corners missing accepted) (answer number place)
-
-  pub odd_list : Odd corners ⊎ Odd missing → Input 1 0
-  odd_list h = looks (inl (refl, whole_first h))
 
   module _ (even : Odd corners ⊎ Odd missing → ⊥) where
     pub many_corners : most < length (points corners) → Input 2 0
@@ -62,13 +55,7 @@ module _ (c m : List Point) where
   abbrev Shown : ℕ → ℕ → Type 0
   Shown number place = Looks (rebuild_rows c m accepted) (answer number place)
 
-  pub no_corner_list : (CornerList c c → ⊥) → Shown 8 0
-  no_corner_list h = looks (inl (refl, whole_first h))
-
   module _ (listed : CornerList c c) (r : ℕ) (f : FirstBelow (length m) (Strays m) r) where
-    pub some_stray : r < length m → Shown 9 r
-    some_stray l = looks (inr (whole_never (λ n. n listed), inl (refl, first_here _ (Strays m) r f l)))
-
     module _ (all : length m ≤ r) (t : ℕ) (g : FirstBelow (length m) (AtPoint (Misplaced c) m) t) where
       behind_strays : (n i : ℕ) → Gives (10 when AtPoint (Misplaced c) m else accepted) n i → Shown n i
       behind_strays n i h = looks (inr (whole_never (λ k. k listed), inr (never_below _ (Strays m) r f (λ j p. p.0) all, h)))

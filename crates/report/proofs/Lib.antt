@@ -2,3 +2,4 @@
 pub mod Missing
 pub mod Reporting
 pub mod Pinned
+pub mod Told

@@ -2,10 +2,10 @@
 use mathlib.Core.Path.{◌≡◌, refl, sym, ◌∙◌, ap, subst}
 use mathlib.Core.Logic.{inl, inr}
 use mathlib.Core.List.{List, [], ◌∷◌}
-use Prim.Native.Nat.{ℕ, zero, suc, ◌*◌, ◌/◌, ◌≤◌, ◌<◌}
+use Prim.Native.Nat.{ℕ, suc, ◌*◌, ◌/◌, ◌≤◌, ◌<◌}
 use native.Mathlib.Omega.{arith}
 use lib.ListN.{length, take}
-use lib.IntN.{ℤ, pos}
+use lib.IntN.{ℤ}
 use Rattle.std.specs.Prelude.{Option, Some, None, IfSome, Ok}
 use Rattle.lattice.specs.Point.{Point, points}
 use Rattle.lattice.specs.Hull.{Missing}
@@ -17,7 +17,7 @@ use Rattle.lattice.proofs.Rooms.{holding_length}
 use Rattle.lattice.proofs.Tables.{other_later, both_accept, place_zero}
 use Rattle.packed.specs.Packed.{cells}
 use Rattle.hull.specs.declared.Hulled.{Hulled}
-use Rattle.hull.specs.Hull.{hull_rows, HullResult, HullPromise}
+use Rattle.hull.specs.Hull.{hull_rows, HullPromise}
 use Rattle.hull.specs.Within.{MoreMissing, within_rows, WithinPromise}
 use Rattle.hull.proofs.Standing.{Stands, accepted_hulls, accepted_gives, accepted_stands}
 use Rattle.walk.specs.Walk.{Lacking, FirstIn, Takes, Puts}
@@ -25,14 +25,7 @@ use Rattle.report.specs.Answer.{judged_of, reported_of, verdict_by, first_by, un
 use Rattle.report.proofs.Missing.{judges_no, judges_yes, missing_takes, missing_puts}
 use Rattle.report.specs.declared.Judged.{Judged}
 use Rattle.report.specs.declared.Reported.{Reported}
-use Rattle.report.specs.Report.{neither, verdict_of, VerdictPromise, FewerThanMissing, report_rows, ReportPromise}
-
--- declined answers
-abbrev unjudged : ℕ → ℕ → Judged
-unjudged number place = record { number = number; place = place; points = 0; corners = 0; verdict = neither; x = pos 0; y = pos 0 }
-
-abbrev unreported : ℕ → ℕ → Reported
-unreported number place = record { number = number; place = place; points = 0; corners = 0; missing = 0; verdict = neither; x = pos 0; y = pos 0 }
+use Rattle.report.specs.Report.{verdict_of, VerdictPromise, FewerThanMissing, report_rows, ReportPromise}
 
 -- accepted answers
 abbrev judged : ℕ → ℕ → Option Point → Judged
@@ -44,16 +37,6 @@ reported n count missing first =
 
 -- ---- Verdict
 module _ (list ordered corners : List ℤ) {answer : Hulled} {ordered' corners' : List ℤ} (f : HullPromise list ordered corners answer ordered' corners') where
-  pub verdict_declined : (answer.number ≡ 0 → ⊥) → (r : Judged) → r ≡ unjudged answer.number answer.place
-      → VerdictPromise list ordered corners r ordered' corners'
-  verdict_declined e r q = subst (λ r. VerdictPromise list ordered corners r ordered' corners') (sym q) (by_number answer.number answer.place e f.gives f.result)
-    where
-      by_number : (number place : ℕ) → (number ≡ 0 → ⊥) → Gives (hull_rows list ordered corners accepted) number place
-          → HullResult list ordered corners number answer.points answer.corners ordered' corners'
-          → VerdictPromise list ordered corners (unjudged number place) ordered' corners'
-      by_number zero place e g h = absurd (e refl)
-      by_number (suc number) place e g h = record { gives = g; hull = (refl, refl, h.2, h.3); verdict = (refl, refl) }
-
   module _ (e : answer.number ≡ 0) where
     pub verdict_stands : Stands (points list) answer.points answer.corners ordered' corners'
     verdict_stands = accepted_stands list ordered corners accepted answer ordered' corners' f.gives f.result e
@@ -122,17 +105,6 @@ module _ (list ordered corners missing : List ℤ) {answer : Hulled} {ordered' c
   report_gives =
       other_later (hull_rows list ordered corners accepted) (by_pairs (points list) (length missing / 2)) (7 when Whole (FewerThanMissing (points list) missing) else accepted)
       (by_room (points list) missing) answer.number answer.place f.gives
-
-  pub report_declined : (answer.number ≡ 0 → ⊥) → (r : Reported) → r ≡ unreported answer.number answer.place
-      → ReportPromise list ordered corners missing r ordered' corners' missing
-  report_declined e r q =
-      subst (λ r. ReportPromise list ordered corners missing r ordered' corners' missing) (sym q) (by_number answer.number answer.place e report_gives f.result)
-    where
-      by_number : (number place : ℕ) → (number ≡ 0 → ⊥) → Gives (report_rows list ordered corners missing accepted) number place
-          → HullResult list ordered corners number answer.points answer.corners ordered' corners'
-          → ReportPromise list ordered corners missing (unreported number place) ordered' corners' missing
-      by_number zero place e g h = absurd (e refl)
-      by_number (suc number) place e g h = record { gives = g; hull = (refl, refl, h.2, h.3); verdict = (refl, refl); listed = (refl, refl) }
 
   module _ (e : answer.number ≡ 0) where
     passes : Gives (within_rows list ordered corners (length missing / 2)) 0 answer.place

@@ -30,12 +30,6 @@ pub record Running (l : List Point) (y : ℤ) (begin i : ℕ) : Type 0 where
   pub upto : i ≤ length l
   pub within : (j : ℕ) → begin ≤ j → j < i → (point l j).y ≡ y
 
-pub running_none : (l : List Point) (y : ℤ) (begin : ℕ) → begin ≤ length l → Running l y begin begin
-running_none l y begin h = record { from = omega arith; upto = h; within = λ j u v. absurd (never j u v) }
-  where
-    never : (j : ℕ) → begin ≤ j → j < begin → ⊥
-    never j u v = omega arith
-
 module _ (l : List Point) (y : ℤ) (begin i : ℕ) (h : Running l y begin i) where
   pub running_more : i < length l → (point l i).y ≡ y → Running l y begin (i + 1)
   running_more m e = record {

@@ -145,11 +145,6 @@ descending_start keys stack base n c = record {
 
 module _ (keys stack₀ : List ℕ) (base : ℕ) (stack : List ℕ) (top i : ℕ) (rising : Rising keys) (h : Descending keys stack₀ base stack top i)
     (b : ℕ) (row : RowFrom keys b i) where
-  pub descending_pushable : base < length keys → 2 * length keys ≤ length stack → Pushable stack base top (get_or keys b 0)
-  descending_pushable low room =
-      standing_pushable keys (negsuc 0) (neg_ℤ (pos range_width)) (DownTo keys i) stack base top h.standing (get_or keys b 0)
-      (omega (arith, h.few, h.upto, row.some)) (rising.below b (omega (arith, h.upto, row.some)))
-
   pub descending_push : (after : List ℕ) (r : ℕ) → Pushed stack base top (get_or keys b 0) after r → Descending keys stack₀ base after r b
   descending_push after r p = record {
     upto = omega (arith, h.upto, row.some);
@@ -231,15 +226,7 @@ module _ (keys stack₀ : List ℕ) (base : ℕ) (stack : List ℕ) (top i : ℕ
 pub array_left : (P : List ℕ → Type 0) {after stack : List ℕ} → after ≡ stack → P stack → P after
 array_left P e p = subst P (sym e) p
 
--- ---- no point, and one
-pub cornered_none : (keys stack : List ℕ) → length keys ≡ 0 → Cornered keys stack 0
-cornered_none [] stack e = record {
-  few = omega arith;
-  below = λ i h. nowhere i h;
-  corners = corner_list_of_spanned [] [] (spans_itself [] (record { start = tt; three = tt }));
-}
-cornered_none (k ∷ keys) stack e = absurd (omega arith)
-
+-- ---- one point
 pub cornered_one : (keys stack : List ℕ) → length keys ≡ 1 → Below keys → 0 < length stack → Cornered keys (set stack 0 (get_or keys 0 0)) 1
 cornered_one [] stack e h l = absurd (omega arith)
 cornered_one (k ∷ []) [] e h l = absurd (omega arith)

@@ -1,5 +1,5 @@
 -- Laws of a stack in an array from which points are popped before one is pushed. Assumes nothing.
-use mathlib.Core.Path.{◌≡◌, refl, sym, ◌∙◌, ap, subst}
+use mathlib.Core.Path.{◌≡◌, sym, ◌∙◌, ap, subst}
 use mathlib.Core.List.{List}
 use Prim.Native.Nat.{ℕ, suc, ◌+◌, ◌-◌, ◌≤◌, ◌<◌}
 use native.Mathlib.Omega.{arith}
@@ -10,7 +10,7 @@ use lib.Signed.{◌≤ℤ◌, ◌<ℤ◌}
 use Rattle.lattice.specs.Hull.{turn}
 use Rattle.lattice.proofs.Lists.{either}
 use Rattle.lattice.proofs.Places.{lt_or_le}
-use Rattle.packed.specs.Packed.{cells, unpacked}
+use Rattle.packed.specs.Packed.{unpacked}
 use Rattle.scan.specs.Scanning.{at, Pushable, Pushed}
 
 -- all above `last` is popped so far, and nothing is written
@@ -20,18 +20,7 @@ pub record Popping (stack₀ : List ℕ) (base top k : ℕ) (stack : List ℕ) (
   pub same : stack ≡ stack₀
   pub popped : (i : ℕ) → last ≤ i → suc i < top → turn (at stack₀ i) (at stack₀ (suc i)) (unpacked k) ≤ℤ pos 0
 
-pub popping_none : (stack : List ℕ) (base top k : ℕ) → base < top → Popping stack base top k stack (top - 1)
-popping_none stack base top k h = record {
-  from = omega arith;
-  under = omega arith;
-  same = refl;
-  popped = λ i l u. absurd (omega arith);
-}
-
 module _ (stack₀ : List ℕ) (base top k : ℕ) (stack : List ℕ) (last : ℕ) (h : Popping stack₀ base top k stack last) where
-  pub popping_below : Pushable stack₀ base top k → (i : ℕ) → i ≤ last → get_or stack i 0 < cells
-  popping_below p i l = subst (λ s. get_or s i 0 < cells) (sym h.same) (p.below i (omega (arith, h.under)))
-
   pub popping_more : base < last → turn (at stack (last - 1)) (at stack last) (unpacked k) ≤ℤ pos 0 → Popping stack₀ base top k stack (last - 1)
   popping_more l t = record {
     from = omega arith;

@@ -2,7 +2,7 @@
 use mathlib.Core.Path.{◌≡◌, refl, sym, ◌∙◌, ap}
 use mathlib.Core.Logic.{inl, inr}
 use mathlib.Core.List.{List, [], ◌∷◌}
-use Prim.Native.Nat.{ℕ, zero, suc, ◌+◌, ◌-◌, ◌*◌, ◌/◌, ◌%◌, ◌≤◌, ◌<◌}
+use Prim.Native.Nat.{ℕ, zero, suc, ◌+◌, ◌-◌, ◌/◌, ◌%◌, ◌≤◌, ◌<◌}
 use native.Mathlib.Omega.{arith}
 use lib.ListN.{length, get_or}
 use lib.IntN.{ℤ, pos, negsuc, neg_ℤ, ◌-ℤ◌, ◌*ℤ◌}
@@ -14,7 +14,7 @@ use Rattle.lattice.proofs.RowKey.{range_width, before_key, key_before, opposite,
 use Rattle.lattice.proofs.Scan.{Over}
 use Rattle.packed.specs.Packed.{side, placed}
 use Rattle.packed.proofs.RowOrder.{unpacked_in_range, before_unpacked, unpacked_before, placed_grows}
-use Rattle.scan.specs.Scanning.{at, Rising, EndsRow, StartsRow, RowTo, RowFrom}
+use Rattle.scan.specs.Scanning.{at, Rising, EndsRow, StartsRow}
 use Rattle.scan.proofs.Ways.{Way}
 
 -- the row of a place
@@ -112,59 +112,3 @@ pub record Running (keys : List ℕ) (begin end : ℕ) : Type 0 where
   pub upto : end ≤ length keys
   pub same : (j : ℕ) → begin ≤ j → suc j < end → row_at keys j ≡ row_at keys (suc j)
   pub row : row_at keys begin ≡ row_at keys (end - 1)
-
-pub running_one : (keys : List ℕ) (begin end : ℕ) → suc begin ≡ end → end ≤ length keys → Running keys begin end
-running_one keys begin end e l = let d : begin ≡ end - 1 = omega (arith, e) in
-    record { some = omega arith; upto = l; same = λ j u v. absurd (omega arith); row = ap (row_at keys) d }
-
-module _ (keys : List ℕ) (begin end : ℕ) (h : Running keys begin end) where
-  pub running_on : end < length keys → row_at keys (end - 1) ≡ row_at keys end → Running keys begin (end + 1)
-  running_on l e = record {
-    some = omega (arith, h.some);
-    upto = omega arith;
-    same = λ j u v. either (lt_or_le (suc j) end) (λ w. h.same j u w)
-        (λ w. let d : j ≡ end - 1 = omega (arith, h.some) in let f : suc j ≡ end = omega arith in
-        ap (row_at keys) d ∙ e ∙ ap (row_at keys) (sym f));
-    row = let d : end ≡ end + 1 - 1 = omega arith in h.row ∙ e ∙ ap (row_at keys) d;
-  }
-
-  pub running_back : 0 < begin → row_at keys (begin - 1) ≡ row_at keys begin → Running keys (begin - 1) end
-  running_back l e = record {
-    some = omega (arith, h.some);
-    upto = h.upto;
-    same = λ j u v. either (lt_or_le j begin)
-        (λ w. let d : j ≡ begin - 1 = omega arith in let f : suc j ≡ begin = omega arith in
-        ap (row_at keys) d ∙ e ∙ ap (row_at keys) (sym f))
-        (λ w. h.same j w v);
-    row = e ∙ h.row;
-  }
-
-  -- where the points rise, one bound tells the row from the next, and one from the row before
-  module _ (r : Rising keys) where
-    pub row_goes_on : end < length keys → get_or keys end 0 < (row_at keys begin + 1) * side → row_at keys (end - 1) ≡ row_at keys end
-    row_goes_on l u = omega (arith, u, h.row, r.rises (end - 1) end (omega (arith, h.some)) l)
-
-    pub row_goes_back : 0 < begin → row_at keys (end - 1) * side ≤ get_or keys (begin - 1) 0 → row_at keys (begin - 1) ≡ row_at keys begin
-    row_goes_back l u = omega (arith, u, h.row, r.rises (begin - 1) begin (omega arith) (omega (arith, h.some, h.upto)))
-
-  pub row_ends : (row_at keys begin + 1) * side ≤ get_or keys end 0 → row_at keys (end - 1) ≡ row_at keys end → ⊥
-  row_ends u e = omega (arith, u, e, h.row)
-
-  pub row_begins : get_or keys (begin - 1) 0 < row_at keys (end - 1) * side → row_at keys (begin - 1) ≡ row_at keys begin → ⊥
-  row_begins u e = omega (arith, u, e, h.row)
-
-  pub row_to : (end < length keys → row_at keys (end - 1) ≡ row_at keys end → ⊥) → RowTo keys begin end
-  row_to n = record {
-    some = h.some;
-    upto = h.upto;
-    same = h.same;
-    ends = λ j e l d. let f : j ≡ end - 1 = omega (arith, e) in
-        n (omega (arith, e, l)) (ap (row_at keys) (sym f) ∙ d ∙ ap (row_at keys) e);
-  }
-
-  pub row_from : (0 < begin → row_at keys (begin - 1) ≡ row_at keys begin → ⊥) → RowFrom keys begin end
-  row_from n = record {
-    some = h.some;
-    same = h.same;
-    starts = λ j e d. let f : j ≡ begin - 1 = omega (arith, e) in n (omega (arith, e)) (ap (row_at keys) (sym f) ∙ d);
-  }

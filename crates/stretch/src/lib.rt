@@ -2,10 +2,10 @@
 // The corners are read where they stand, as numbers.
 #![tactic(auto)]
 
-ghost use Rattle.std.specs.Prelude.{◌≡◌, get_or, ◌+◌, ◌-◌, ◌*◌, ◌≤◌, ◌<◌};
+ghost use Rattle.std.specs.Prelude.{◌≡◌, ◌+◌, ◌-◌, ◌*◌, ◌/◌, ◌%◌, ◌≤◌, ◌<◌};
 ghost use Rattle.packed.specs.Packed.{Tells, side};
-ghost use Rattle.packed.specs.Corners.{keys_of};
-ghost use Rattle.stretch.specs.Stretch.{Bounded, Way, HasRow, first_row, last_row, Tall, unit, column_of, above, move_of, CanRise, Climbs, Only, FirstRises, OnSide, Crosses, stepped, GoesOn};
+ghost use Rattle.stretch.specs.Stretch.{Bounded, HasRow, first_row, unit, column_of, above, move_of, CanRise, Climbs, Only, stepped, GoesOn};
+ghost use Rattle.stretch.specs.Corners.{Stands, key, lowest, highest, Spans, Joins, RisesFirst, AtSide, CrossedBy};
 
 use std::marker::Model;
 
@@ -17,7 +17,7 @@ pub struct Stretch {
 }
 
 impl Stretch {
-    // How many columns it has.
+    // How many columns it has. No From leads from u32 to usize: `as`, which the check proves exact.
     pub fn width(self) -> usize
         requires { self.from ≤ self.to }
         ensures { result ≡ self.to - self.from }
@@ -30,8 +30,50 @@ impl Stretch {
 // least by which an edge misses a column: a part in SIDE of it.
 const UNIT: u64 = 1 << 32;
 
-// How far the left side is moved: a column of which any part is left of the edge is not in the hull.
+// How far the left side is moved: a column of which any part is left of the edge is not in the hull. A constant calls no `From`: `as`.
 const MOVED: u64 = UNIT - packed::SIDE as u64;
+
+// The corners of a hull, read where they stand, and the place of the last in row order. That the hull has a row is a clause: a ghost field of it
+// needs a proof that it is true in one way at most, which antt does not find, and a struct with a model and a lifetime is not `Copy`.
+#[derive(Clone, Copy)]
+struct Corners<'a> {
+    list: &'a [i32],
+    peak: usize,
+}
+
+impl Corners<'_> {
+    // The column of the corner at a place.
+    fn column(self, place: usize) -> u32
+        requires { Stands self place }
+        ensures { (result ≡ key self.entry place % side) × (result < side) }
+    {
+        packed::column_at(self.list, place)
+    }
+
+    // The row of the corner at a place.
+    fn row(self, place: usize) -> u32
+        requires { Stands self place }
+        ensures { (result ≡ key self.entry place / side) × (result < side) }
+    {
+        packed::row_at(self.list, place)
+    }
+
+    // The last row of the hull.
+    fn last_row(self) -> u32
+        requires { Stands self self.peak }
+        ensures { (result ≡ highest self.entry) × (result < side) }
+    {
+        self.row(self.peak)
+    }
+
+    // The first rising edge: the second where the first lies in its row.
+    fn first_rising(self) -> usize
+        requires { Spans self (lowest self) × (lowest self < highest self) }
+        ensures { RisesFirst self.entry result }
+    {
+        if self.row(0) == self.row(1) { 1 } else { 0 }
+    }
+}
 
 // The sides of a hull, each followed upwards from corner to corner: on the left the corner list goes down, so it is followed back.
 #[derive(Clone, Copy)]
@@ -75,21 +117,20 @@ struct Edge {
 
 impl Edge {
     // The edge from the corner at place `low` up to that at `high`, in row y.
-    fn climb(side: Side, corners: &[i32], low: usize, high: usize, y: u32) -> Self
-        requires { Way corners.now low high y }
-        ensures { (result.top ≡ high) × Climbs (get_or (keys_of corners.now) low 0) (get_or (keys_of corners.now) high 0) y (move_of side) result }
+    fn climb(side: Side, corners: Corners, low: usize, high: usize, y: u32) -> Self
+        requires { Joins corners low high y }
+        ensures { (result.top ≡ high) × Climbs (key corners.entry low) (key corners.entry high) y (move_of side) result }
     {
-        let first = packed::row_at(corners, low);
-        let last = packed::row_at(corners, high);
-        let column = packed::column_at(corners, low) as u64;
-        let height = (last - first) as u64;
-        let growth = packed::column_at(corners, high) as u64 + packed::SIDE as u64 * height
-            - column;
+        let first = corners.row(low);
+        let last = corners.row(high);
+        let column = u64::from(corners.column(low));
+        let height = u64::from(last - first);
+        let growth = u64::from(corners.column(high)) + u64::from(packed::SIDE) * height - column;
         let slope = growth * UNIT / height + 1;
         Self {
             top: high,
             last,
-            position: column * UNIT + side.moved() + slope * (y - first) as u64,
+            position: column * UNIT + side.moved() + slope * u64::from(y - first),
             slope,
         }
     }
@@ -102,7 +143,7 @@ impl Edge {
         Self {
             top: 0,
             last: row,
-            position: column as u64 * UNIT,
+            position: u64::from(column) * UNIT,
             slope: 0,
         }
     }
@@ -116,10 +157,9 @@ impl Edge {
     }
 
     // On to the row after y: the same edge one row further, or where it has ended the next of its side that reaches so far.
-    // That the search ends is known by `peak`, which only the contract names.
-    fn advance(&mut self, side: Side, corners: &[i32], peak: usize, y: u32)
-        requires { HasRow corners.now peak y × (y < last_row corners.now peak) × OnSide side (keys_of corners.now) peak y self.old }
-        ensures { OnSide side (keys_of corners.now) peak (y + 1) self.new }
+    fn advance(&mut self, side: Side, corners: Corners, y: u32)
+        requires { Spans corners y × (y < highest corners) × AtSide side corners y self.old }
+        ensures { AtSide side corners.entry (y + 1) self.new }
     {
         if y < self.last {
             self.step();
@@ -127,14 +167,14 @@ impl Edge {
         }
         let mut low = self.top;
         let mut high = side.above(low);
-        while packed::row_at(corners, high) <= y {
+        while corners.row(high) <= y {
             low = high;
             high = side.above(high);
         }
         *self = Self::climb(side, corners, low, high, y + 1);
     }
 
-    // The column that it crosses.
+    // The column that it crosses. No From leads from u64 to u32: `as`, which the check proves exact.
     fn column(&self) -> u32
         ensures { result ≡ column_of self.now }
     {
@@ -149,33 +189,21 @@ struct Crossing {
     right: Edge,
 }
 
-// The first rising edge: the second where the first lies in its row.
-fn first_rising(corners: &[i32], peak: usize) -> usize
-    requires { HasRow corners.now peak (first_row corners.now) × Tall (keys_of corners.now) peak }
-    ensures { FirstRises (keys_of corners.now) peak result }
-{
-    if packed::row_at(corners, 0) == packed::row_at(corners, 1) {
-        1
-    } else {
-        0
-    }
-}
-
 impl Crossing {
     // Both sides in the first row.
-    fn start(corners: &[i32], peak: usize, y: u32) -> Self
-        requires { HasRow corners.now peak (first_row corners.now) × (y ≡ first_row corners.now) }
-        ensures { Crosses (keys_of corners.now) peak y result }
+    fn start(corners: Corners, y: u32) -> Self
+        requires { Spans corners (lowest corners) × (y ≡ lowest corners) }
+        ensures { CrossedBy corners.entry y result }
     {
-        if y == packed::row_at(corners, peak) {
+        if y == corners.last_row() {
             Self {
-                left: Edge::only(packed::column_at(corners, 0), y),
-                right: Edge::only(packed::column_at(corners, peak), y),
+                left: Edge::only(corners.column(0), y),
+                right: Edge::only(corners.column(corners.peak), y),
             }
         } else {
-            let rising = first_rising(corners, peak);
+            let rising = corners.first_rising();
             Self {
-                left: Edge::climb(Side::Left, corners, 0, corners.len() / 2 - 1, y),
+                left: Edge::climb(Side::Left, corners, 0, corners.list.len() / 2 - 1, y),
                 right: Edge::climb(Side::Right, corners, rising, rising + 1, y),
             }
         }
@@ -199,25 +227,25 @@ impl Crossing {
 
     // On to the row after y, if the hull has it, where an edge may have ended: all rows together take as many steps as there are rows and corners.
     #[inline(never)]
-    fn pass_corner(&mut self, corners: &[i32], peak: usize, y: u32)
-        requires { HasRow corners.now peak y × Crosses (keys_of corners.now) peak y self.old }
-        ensures { y < last_row corners.now peak → Crosses (keys_of corners.now) peak (y + 1) self.new }
+    fn pass_corner(&mut self, corners: Corners, y: u32)
+        requires { Spans corners y × CrossedBy corners y self.old }
+        ensures { y < highest corners.entry → CrossedBy corners.entry (y + 1) self.new }
     {
-        if y < packed::row_at(corners, peak) {
-            self.left.advance(Side::Left, corners, peak, y);
-            self.right.advance(Side::Right, corners, peak, y);
+        if y < corners.last_row() {
+            self.left.advance(Side::Left, corners, y);
+            self.right.advance(Side::Right, corners, y);
         }
     }
 
     // On to the row after y, if the hull has it. In most rows both edges go on, so what happens at a corner stands apart.
-    fn advance(&mut self, corners: &[i32], peak: usize, y: u32)
-        requires { HasRow corners.now peak y × Crosses (keys_of corners.now) peak y self.old }
-        ensures { y < last_row corners.now peak → Crosses (keys_of corners.now) peak (y + 1) self.new }
+    fn advance(&mut self, corners: Corners, y: u32)
+        requires { Spans corners y × CrossedBy corners y self.old }
+        ensures { y < highest corners.entry → CrossedBy corners.entry (y + 1) self.new }
     {
         if self.goes_on(y) {
             self.step();
         } else {
-            self.pass_corner(corners, peak, y);
+            self.pass_corner(corners, y);
         }
     }
 
@@ -236,8 +264,7 @@ impl Crossing {
 // The rows of a hull from that of its first corner to that of its last, each with the columns in which the hull has points of it.
 #[derive(Drop)]
 pub struct Rows<'a> {
-    corners: &'a [i32],
-    peak: usize,
+    corners: Corners<'a>,
     last: u32,
     y: u32,
     crossing: Crossing,
@@ -250,9 +277,9 @@ impl<'a> Model for Rows<'a> {
 
     ghost use Rattle.stretch.specs.Stretch.{Following};
 
-    ghost view = { λ r. record { corners = r.corners.now; peak = r.peak; y = r.y } };
+    ghost view = { λ r. record { corners = r.corners.list.now; peak = r.corners.peak; y = r.y } };
 
-    ghost invariant = { λ r. Following r.corners.now r.peak r.last r.y r.crossing };
+    ghost invariant = { λ r. Following r.corners.list.now r.corners.peak r.last r.y r.crossing };
 }
 
 impl<'a> Rows<'a> {
@@ -261,13 +288,16 @@ impl<'a> Rows<'a> {
         requires { HasRow corners.now peak (first_row corners.now) }
         ensures { result ≡ record { corners = corners.now; peak = peak; y = first_row corners.now } }
     {
-        let y = packed::row_at(corners, 0);
+        let corners = Corners {
+            list: corners,
+            peak,
+        };
+        let y = corners.row(0);
         Self {
             corners,
-            peak,
-            last: packed::row_at(corners, peak),
+            last: corners.last_row(),
             y,
-            crossing: Crossing::start(corners, peak, y),
+            crossing: Crossing::start(corners, y),
         }
     }
 }
@@ -287,7 +317,7 @@ impl Iterator for Rows<'_> {
             return None;
         }
         let row = (self.y, self.crossing.across());
-        self.crossing.advance(self.corners, self.peak, self.y);
+        self.crossing.advance(self.corners, self.y);
         self.y += 1;
         Some(row)
     }

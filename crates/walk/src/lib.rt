@@ -89,7 +89,7 @@ fn first_column(row: &[i32], columns: Stretch) -> u32
 }
 
 // The first lattice point of the hull that the list lacks, packed. Document 01 names the form: nested loops over rows and columns, left by a
-// label with that point.
+// label with that point. No From leads from u32 to usize: `as`, which the check proves exact.
 pub fn first(corners: &[i32], list: &[i32]) -> Option<u32>
     requires { Walked corners.now list.now }
     ensures { FirstIn (Lacking corners.now list.now) result }
@@ -128,7 +128,7 @@ fn neighbour(row: &[i32], i: usize) -> usize
 }
 
 // All lattice points of a row's stretch, at the front of the room; how many there are. They are written by place: of a room that
-// `chunks_exact_mut` has lent out a proof knows the length alone.
+// `chunks_exact_mut` has lent out a proof knows the length alone. No From leads from usize to u32: `as`, which the check proves exact.
 fn fill(stretch: Stretch, y: u32, room: &mut [i32]) -> usize
     requires { (stretch.from ≤ stretch.to) × (stretch.to ≤ side) × (y < side) × (2 * (stretch.to - stretch.from) ≤ length room.old) }
     ensures { Puts (Across stretch y) room.old result room.new }

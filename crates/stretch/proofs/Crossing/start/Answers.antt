@@ -33,21 +33,21 @@ tall peak y row keys e f l n = omega arith
 
 pub climb-requires : goal.climb-requires
 climb-requires c =
-    let t = tall _ _ _ (keys_of c.args.corners.now) c.requires.1 c.row_at.ensures.2 c.requires.0.peaked.to_row c.if-y-row_at.false in
+    let t = tall _ _ _ (keys_of c.args.corners.list.now) c.requires.1 c.last_row.ensures.0 c.requires.0.peaked.to_row c.if-y-last_row.false in
     closing_way (is_row c.requires.0 c.requires.1) _ (falls c.requires.0 c.requires.1 t)
 
-pub climb-requires-else-y-row_at : goal.climb-requires-else-y-row_at
-climb-requires-else-y-row_at c =
-    let t = tall _ _ _ (keys_of c.args.corners.now) c.requires.1 c.row_at.ensures.2 c.requires.0.peaked.to_row c.if-y-row_at.false in
+pub climb-requires-else-y-last_row : goal.climb-requires-else-y-last_row
+climb-requires-else-y-last_row c =
+    let t = tall _ _ _ (keys_of c.args.corners.list.now) c.requires.1 c.last_row.ensures.0 c.requires.0.peaked.to_row c.if-y-last_row.false in
     rising_way (is_row c.requires.0 c.requires.1) _ (rises c.requires.0 c.requires.1 t _ c.first_rising-rising.ensures)
 
-pub returns-else-y-row_at : goal.returns-else-y-row_at
-returns-else-y-row_at c =
-    let t = tall _ _ _ (keys_of c.args.corners.now) c.requires.1 c.row_at.ensures.2 c.requires.0.peaked.to_row c.if-y-row_at.false in
+pub returns-else-y-last_row : goal.returns-else-y-last_row
+returns-else-y-last_row c =
+    let t = tall _ _ _ (keys_of c.args.corners.list.now) c.requires.1 c.last_row.ensures.0 c.requires.0.peaked.to_row c.if-y-last_row.false in
     let h = (is_row c.requires.0 c.requires.1).peaked in
     record {
-      left = left_of _ _ _ h _ _ (omega (arith, h.peaks.inside, keys_length c.args.corners.now)) (falls c.requires.0 c.requires.1 t) t _
+      left = left_of _ _ _ h _ _ (omega (arith, h.peaks.inside, keys_length c.args.corners.list.now)) (falls c.requires.0 c.requires.1 t) t _
           c.climb.ensures.0 c.climb.ensures.1;
       right = right_of _ _ _ h _ c.first_rising-rising.ensures.before (rises c.requires.0 c.requires.1 t _ c.first_rising-rising.ensures) t _
-          c.climb-else-y-row_at.ensures.0 c.climb-else-y-row_at.ensures.1;
+          c.climb-else-y-last_row.ensures.0 c.climb-else-y-last_row.ensures.1;
     }
