@@ -1,32 +1,32 @@
 -- Sums of coordinates stay small, and the laws of the loop that sums. Assumes nothing.
-use mathlib.Core.Path.{◌≡◌, sym, ◌∙◌, ap, subst}
+use mathlib.Core.Path.{◌≡◌, refl, sym, ◌∙◌, ap, subst}
 use mathlib.Core.List.{List, [], ◌∷◌}
 use Prim.Native.Nat.{ℕ, zero, suc, ◌+◌, ◌*◌, ◌≤◌, ◌<◌}
 use native.Mathlib.Numerals.{add-one}
 use native.Mathlib.Omega.{arith}
 use lib.ListN.{length, get_or, drop, drop_of_length-le}
 use lib.Seq.{drop-cons}
+use Rattle.std.proofs.lemmas.List.{get_or-map}
 use lib.IntN.{ℤ, pos, ◌+ℤ◌, +ℤ_idl, +ℤ_idr, +ℤ_assoc}
 use mir.Syntax.{w32}
 use mir.Val.{SFits, to_z, of_z}
 use Rattle.whole.proofs.Whole.{quote, gap≤, linear≤}
 use Rattle.lattice.specs.Point.{Point, origin, InRange, most, points, point, All}
-use Rattle.lattice.proofs.Numbers.{points_at}
 use Rattle.lattice.proofs.Places.{all_place}
+use Rattle.range.specs.Pairs.{pair_of, pairs_of}
 use Rattle.packed.specs.Packed.{offset, Within}
 use Rattle.packed.proofs.Small.{within_sum, within_fits}
 use Rattle.packed.proofs.Tests.{read_back}
 use Rattle.figures.specs.Figure.{coordinate, sum, Summable}
 
--- a coordinate of the i-th point, as a number of the list
-number_at : (list : List ℤ) (i k : ℕ) → i < length (points list) → k < 2 → get_or list (2 * i + k) (pos 0) ≡ coordinate k (point (points list) i)
-number_at list i zero h l = let e : 2 * i + 0 ≡ 2 * i = omega arith in
-    ap (λ n. get_or list n (pos 0)) e ∙ ap (λ p. p.x) (sym (points_at list i h))
-number_at list i (suc zero) h l = ap (λ p. p.y) (sym (points_at list i h))
-number_at list i (suc (suc k)) h l = absurd (never k l)
+-- a coordinate of a point, as a number of its pair
+pair_number : (k : ℕ) (p : Point) → k < 2 → get_or (pair_of p) k (pos 0) ≡ coordinate k p
+pair_number zero p h = refl
+pair_number (suc zero) p h = refl
+pair_number (suc (suc k)) p h = absurd (never k h)
   where
     never : (k : ℕ) → suc (suc k) < 2 → ⊥
-    never k l = omega arith
+    never k h = omega arith
 
 -- a coordinate in range is at most 8,192 by magnitude
 coordinate_within : (k : ℕ) (p : Point) → InRange p → Within offset (coordinate k p)
@@ -45,13 +45,15 @@ sum_within k (p ∷ s) r =
 pub sum_fits : (k : ℕ) (s : List Point) → All InRange s → length s ≤ most → SFits w32 (sum (coordinate k) s)
 sum_fits k s r few = within_fits w32 (offset * length s) (sum_within k s r) (omega arith)
 
--- as the machine reads it: a signed number, back from its bits
-pub read_coordinate : (k : ℕ) (list : List ℤ) → Summable list → k < 2 → (i : ℕ) → i < length (points list)
-    → to_z w32 (of_z w32 (get_or list (2 * i + k) (pos 0))) ≡ coordinate k (point (points list) i)
-read_coordinate k list s h i l =
-    let e = number_at list i k l h in
+-- as the machine reads it from the pairs of a list: a signed number, back from its bits
+pub read_coordinate : (k : ℕ) (list : List ℤ) → Summable list → k < 2 → (pairs : List (List ℤ)) → pairs ≡ pairs_of list → (i : ℕ) → i < length (points list)
+    → to_z w32 (of_z w32 (get_or (get_or pairs i []) k (pos 0))) ≡ coordinate k (point (points list) i)
+read_coordinate k list s h pairs same i l =
+    let e = ap (λ (ps : List (List ℤ)). get_or (get_or ps i []) k (pos 0)) same
+    ∙ ap (λ (q : List ℤ). get_or q k (pos 0)) (get_or-map pair_of (points list) i origin [] l)
+    ∙ pair_number k (point (points list) i) h in
     let small = coordinate_within k (point (points list) i) (all_place InRange (points list) s.range i l) in
-    read_back (get_or list (2 * i + k) (pos 0)) (subst (SFits w32) (sym e) (within_fits w32 offset small (omega arith))) ∙ e
+    read_back (get_or (get_or pairs i []) k (pos 0)) (subst (SFits w32) (sym e) (within_fits w32 offset small (omega arith))) ∙ e
 
 -- the coordinates of the first i points are summed
 pub record Summed (k : ℕ) (s : List Point) (i : ℕ) (total : ℤ) : Type 0 where

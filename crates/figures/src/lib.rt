@@ -29,8 +29,8 @@ fn sum(list: &[i32], coordinate: usize) -> i32
     ensures { result ≡ sum_of (coordinate_of coordinate) (points list.now) }
 {
     let mut total: i32 = 0;
-    for i in 0..list.len() / 2 {
-        total += list[2 * i + coordinate];
+    for pair in range::pairs(list) {
+        total += pair[coordinate];
     }
     total
 }

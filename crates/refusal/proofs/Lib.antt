@@ -1,2 +1,3 @@
--- What holds of the numbers of refusals.
+-- What holds of the numbers of refusals, and what tells an answer.
 pub mod Numbers
+pub mod Told

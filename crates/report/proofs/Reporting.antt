@@ -6,7 +6,7 @@ use Prim.Native.Nat.{ℕ, suc, ◌*◌, ◌/◌, ◌≤◌, ◌<◌}
 use native.Mathlib.Omega.{arith}
 use lib.ListN.{length, take}
 use lib.IntN.{ℤ}
-use Rattle.std.specs.Prelude.{Option, Some, None, IfSome, Ok}
+use Rattle.std.specs.Prelude.{Option, Some, None, IfSome, IsSomeAnd, MatchOption, Ok}
 use Rattle.lattice.specs.Point.{Point, points}
 use Rattle.lattice.specs.Hull.{Missing}
 use Rattle.lattice.specs.Grains.{first_of}
@@ -15,13 +15,13 @@ use Rattle.lattice.specs.Room.{holding}
 use Rattle.lattice.proofs.MissingLists.{missing_list_unique}
 use Rattle.lattice.proofs.Rooms.{holding_length}
 use Rattle.lattice.proofs.Tables.{other_later, both_accept, place_zero}
-use Rattle.packed.specs.Packed.{cells}
+use Rattle.packed.specs.Packed.{cells, unpacked}
 use Rattle.hull.specs.declared.Hulled.{Hulled}
 use Rattle.hull.specs.Hull.{hull_rows, HullPromise}
 use Rattle.hull.specs.Within.{MoreMissing, within_rows, WithinPromise}
 use Rattle.hull.proofs.Standing.{Stands, accepted_hulls, accepted_gives, accepted_stands}
 use Rattle.walk.specs.Walk.{Lacking, FirstIn, Takes, Puts}
-use Rattle.report.specs.Answer.{judged_of, reported_of, verdict_by, first_by, unpacked_in, first_in}
+use Rattle.report.specs.Answer.{judged_of, reported_of, verdict_by, first_by, first_in}
 use Rattle.report.proofs.Missing.{judges_no, judges_yes, missing_takes, missing_puts}
 use Rattle.report.specs.declared.Judged.{Judged}
 use Rattle.report.specs.declared.Reported.{Reported}
@@ -34,6 +34,11 @@ judged n count first = judged_of (Ok (record { counts = record { points = n; cor
 abbrev reported : ℕ → ℕ → ℕ → Option Point → Reported
 reported n count missing first =
     reported_of (Ok (record { counts = record { points = n; corners = count }; missing = missing; first_missing = first }))
+
+-- the point that a packed one stands for
+abbrev pub unpacked_in : Option ℕ → Option Point
+unpacked_in None = None
+unpacked_in (Some k) = Some (unpacked k)
 
 -- ---- Verdict
 module _ (list ordered corners : List ℤ) {answer : Hulled} {ordered' corners' : List ℤ} (f : HullPromise list ordered corners answer ordered' corners') where
@@ -56,6 +61,12 @@ module _ (list ordered corners : List ℤ) {answer : Hulled} {ordered' corners' 
       hull = accepted_hulls list ordered corners accepted answer ordered' corners' f.gives f.result e;
       verdict = judges_yes _ _ _ _ _ verdict_stands cells d (omega arith);
     }
+
+-- what `map` makes of a packed point, if there is one
+pub mapped : (o : Option ℕ) (r : Option Point) → MatchOption o (r ≡ None) (λ k. IsSomeAnd r (λ p. p ≡ unpacked k)) → r ≡ unpacked_in o
+mapped None r h = h
+mapped (Some k) None h = absurd h
+mapped (Some k) (Some p) h = ap Some h
 
 -- a first missing point is a packed one
 pub first_small : (P : Point → Type 0) (first : Option ℕ) → FirstIn P first → IfSome first (λ k. k < cells)

@@ -1,13 +1,13 @@
 -- Number, place, counts, verdict and first missing point tell the answers of Verdict and Report, so what is promised of them pins the answers
 -- themselves. Assumes nothing.
-use mathlib.Core.Path.{◌≡◌, refl, sym, ap}
+use mathlib.Core.Path.{◌≡◌, refl, ap}
 use mathlib.Core.List.{List}
 use native.Mathlib.Omega.{arith}
 use lib.IntN.{ℤ}
-use Rattle.std.specs.Prelude.{Option, Some, None, Result, Ok, Err}
+use Rattle.std.specs.Prelude.{Option, Some, None, Result}
 use Rattle.lattice.specs.Point.{Point}
 use Rattle.refusal.specs.declared.Refusal.{Refusal}
-use Rattle.refusal.proofs.Numbers.{number_some, tells_apart}
+use Rattle.refusal.proofs.Told.{answer_told}
 use Rattle.report.specs.declared.Judgement.{Judgement}
 use Rattle.report.specs.declared.Findings.{Findings}
 use Rattle.report.specs.Answer.{judged_of, reported_of, verdict_by, first_by}
@@ -22,20 +22,18 @@ first_told (Some p) None e d = absurd (omega (arith, e))
 first_told (Some p) (Some q) e d = ap Some d
 
 pub judged_told : (a b : Result Judgement Refusal) → judged_of a ≡ judged_of b → a ≡ b
-judged_told (Ok j) (Ok k) e =
+judged_told =
+    answer_told judged_of (λ s. s.number) (λ s. s.place) (λ a. refl) (λ r. refl) (λ r. refl)
+    (λ j k e.
     let first = first_told j.first_missing k.first_missing (ap (λ s. s.verdict) e) (ap (λ s. record { x = s.x; y = s.y }) e) in
-    λ i. Ok (record { counts = record { points = (e i).points; corners = (e i).corners }; first_missing = first i })
-judged_told (Ok j) (Err r) e = absurd (number_some r (sym (ap (λ s. s.number) e)))
-judged_told (Err r) (Ok j) e = absurd (number_some r (ap (λ s. s.number) e))
-judged_told (Err r) (Err q) e = ap Err (tells_apart r q (ap (λ s. s.number) e) (ap (λ s. s.place) e))
+    λ i. record { counts = record { points = (e i).points; corners = (e i).corners }; first_missing = first i })
 
 pub reported_told : (a b : Result Findings Refusal) → reported_of a ≡ reported_of b → a ≡ b
-reported_told (Ok f) (Ok g) e =
+reported_told =
+    answer_told reported_of (λ s. s.number) (λ s. s.place) (λ a. refl) (λ r. refl) (λ r. refl)
+    (λ f g e.
     let first = first_told f.first_missing g.first_missing (ap (λ s. s.verdict) e) (ap (λ s. record { x = s.x; y = s.y }) e) in
-    λ i. Ok (record { counts = record { points = (e i).points; corners = (e i).corners }; missing = (e i).missing; first_missing = first i })
-reported_told (Ok f) (Err r) e = absurd (number_some r (sym (ap (λ s. s.number) e)))
-reported_told (Err r) (Ok f) e = absurd (number_some r (ap (λ s. s.number) e))
-reported_told (Err r) (Err q) e = ap Err (tells_apart r q (ap (λ s. s.number) e) (ap (λ s. s.place) e))
+    λ i. record { counts = record { points = (e i).points; corners = (e i).corners }; missing = (e i).missing; first_missing = first i })
 
 pub verdict_answer_pinned : (list ordered corners : List ℤ) (a b : Result Judgement Refusal) (ordered' ordered'' corners' corners'' : List ℤ)
     → VerdictPromise list ordered corners (judged_of a) ordered' corners' → VerdictPromise list ordered corners (judged_of b) ordered'' corners''

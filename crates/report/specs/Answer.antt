@@ -2,7 +2,6 @@
 -- and values for each case."). Assumes nothing.
 use Rattle.std.specs.Prelude.{List, [], ◌∷◌, ℕ, ℤ, Option, Some, None, Result, Ok, Err}
 use Rattle.lattice.specs.Point.{Point, origin}
-use Rattle.packed.specs.Packed.{unpacked}
 use Rattle.refusal.specs.declared.Refusal.{Refusal}
 use Rattle.refusal.specs.Number.{number_of, place_of}
 use Rattle.report.specs.declared.Judgement.{Judgement}
@@ -48,11 +47,7 @@ reported_of (Ok f) = record {
 reported_of (Err r) =
     record { number = number_of r; place = place_of r; points = 0; corners = 0; missing = 0; verdict = neither; x = origin.x; y = origin.y }
 
--- the point that a packed one stands for; the first point of a list of numbers
-abbrev pub unpacked_in : Option ℕ → Option Point
-unpacked_in None = None
-unpacked_in (Some k) = Some (unpacked k)
-
+-- the first point of a list of numbers
 abbrev pub first_in : List ℤ → Option Point
 first_in [] = None
 first_in (a ∷ []) = None

@@ -1,9 +1,8 @@
 // Verdict: is a grain convex, and the first missing point if it is not. Report: all missing points. Both read on where Hull has written.
 #![tactic(auto)]
 
-ghost use Rattle.std.specs.Prelude.{◌≡◌, ◌<◌, IfSome};
-ghost use Rattle.packed.specs.Packed.{cells};
-ghost use Rattle.report.specs.Answer.{judged_of, reported_of, verdict_by as verdict_by_of, unpacked_in, first_in};
+ghost use Rattle.std.specs.Prelude.{◌≡◌};
+ghost use Rattle.report.specs.Answer.{judged_of, reported_of, verdict_by as verdict_by_of, first_in};
 ghost use Rattle.report.specs.Report.{VerdictPromise, ReportPromise};
 
 use hull::Counts;
@@ -135,17 +134,6 @@ fn verdict_by(first_missing: Option<Point>) -> u32
     }
 }
 
-// The packed point that was found, if there is one.
-fn unpacked(first: Option<u32>) -> Option<Point>
-    requires { IfSome first (λ k. k < cells) }
-    ensures { result ≡ unpacked_in first }
-{
-    match first {
-        Some(k) => Some(packed::unpacked(k)),
-        None => None,
-    }
-}
-
 // The first point of a list, if it has one.
 fn first_of(list: &[i32]) -> Option<Point>
     ensures { result ≡ first_in list.now }
@@ -167,7 +155,7 @@ pub fn verdict(list: &[i32], ordered: &mut [i32], corners: &mut [i32]) -> Result
     );
     Ok(Judgement {
         counts,
-        first_missing: unpacked(first),
+        first_missing: first.map(packed::unpacked),
     })
 }
 

@@ -29,7 +29,8 @@ fn lead(list: &[i32], y: i32) -> usize
     range::pairs(list).partition_point(|&[_, v]| v < y)
 }
 
-// Where the points of row y that begin at `begin` end.
+// Where the points of row y that begin at `begin` end. `position` was tried, and its proof did not close: of a number that it passes nothing tells
+// that it fits its type, which `for` has of each item.
 pub fn run(list: &[i32], y: i32, begin: usize) -> usize
     requires { begin ≤ length (points list.now) }
     ensures { RunsTo (points list.now) y begin result }

@@ -107,6 +107,17 @@ module _ (corners : List ℕ) (peak y : ℕ) (h : Peaked corners peak y) where
     pub two_corners : 1 < length corners
     two_corners = omega (arith, later, h.peaks.inside)
 
+    pub rising_first : (row_at 0 ≡ row_at 1 → ⊥) → FirstRises corners peak 0
+    rising_first e = record {
+      before = later;
+      rises = record {
+        inside = two_corners;
+        low = omega arith;
+        high = first_row_lem 1 two_corners;
+        steep = either (lt_or_le (row_at 0) (row_at 1)) (λ l. l) (λ l. absurd (e (omega (arith, l, first_row_lem 1 two_corners))));
+      };
+    }
+
     pub rising_second : row_at 0 ≡ row_at 1 → FirstRises corners peak 1
     rising_second e = record { before = second; rises = record { inside = third; low = omega (arith, e); high = first_row_lem 2 third; steep = rises } }
       where

@@ -7,7 +7,7 @@ use lib.ListN.{length, get_or}
 use lib.IntN.{ℤ}
 use Rattle.packed.specs.Packed.{side}
 use Rattle.packed.specs.Corners.{keys_of}
-use Rattle.stretch.specs.Stretch.{Way, Bounded, Peaked, HasRow, last_row, RisesFrom, unit, above, CanRise, Nears, column_of, move_of, Climbs, OnSide, stepped, Following}
+use Rattle.stretch.specs.Stretch.{Way, Bounded, Peaked, HasRow, last_row, RisesFrom, FallsFrom, unit, above, CanRise, column_of, move_of, Climbs, OnSide, stepped, Following}
 use Rattle.stretch.specs.declared.Side.{Side}
 use Rattle.stretch.specs.declared.Side.TheVariants.{Left, Right}
 use Rattle.stretch.specs.declared.Stretch.{Stretch}
@@ -22,6 +22,11 @@ use Rattle.stretch.proofs.Following.{left_small, left_on, falls_place, falls_fro
 abbrev pub corners_left : Side → ℕ → ℕ → ℕ
 corners_left Left peak i = i
 corners_left Right peak i = peak - i
+
+-- the edge of a side from place `low` up to place `high` crosses row y, or ends below it
+abbrev pub Nears : Side → List ℕ → ℕ → ℕ → ℕ → ℕ → Type 0
+Nears Left corners peak y low high = FallsFrom corners peak y high × (low ≡ high + 1)
+Nears Right corners peak y low high = RisesFrom corners peak y low × (high ≡ low + 1)
 
 -- ---- an edge that goes on
 module _ (corners : List ℕ) (peak y : ℕ) (h : Peaked corners peak y) where

@@ -114,11 +114,6 @@ abbrev pub CanRise : Side → ℕ → Type 0
 CanRise Left i = 0 < i
 CanRise Right i = i + 1 < 2 ^ 64
 
--- the edge of a side from place `low` up to place `high` crosses row y, or ends below it
-abbrev pub Nears : Side → List ℕ → ℕ → ℕ → ℕ → ℕ → Type 0
-Nears Left corners peak y low high = FallsFrom corners peak y high × (low ≡ high + 1)
-Nears Right corners peak y low high = RisesFrom corners peak y low × (high ≡ low + 1)
-
 -- the edge that rises from the first row
 pub record FirstRises (corners : List ℕ) (peak i : ℕ) : Type 0 where
   pub before : i < peak

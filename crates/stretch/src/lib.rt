@@ -71,7 +71,7 @@ impl Corners<'_> {
         requires { Spans self (lowest self) × (lowest self < highest self) }
         ensures { RisesFirst self.entry result }
     {
-        if self.row(0) == self.row(1) { 1 } else { 0 }
+        usize::from(self.row(0) == self.row(1))
     }
 }
 

@@ -3,5 +3,5 @@ use Rattle.lattice.specs.Point.{points}
 use Rattle.figures.proofs.Summing.{Summed}
 use Rattle.figures.proofs.sum.Given as goal
 
-abbrev pub invariant-loop-i : goal.invariant-loop-i
-invariant-loop-i l = Summed l.coordinate (points l.list) l.i l.total
+abbrev pub invariant-loop-pair : goal.invariant-loop-pair
+invariant-loop-pair l = Summed l.coordinate (points l.list) l.pair-index l.total

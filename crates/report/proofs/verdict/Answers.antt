@@ -1,8 +1,10 @@
 -- `report::verdict` meets its contract: what Hull promises, and the first missing point. Assumes nothing.
-use Rattle.std.proofs.Common.{refl, sym, arith}
+use Rattle.std.proofs.Common.{◌<◌, refl, sym, subst, arith}
+use Rattle.std.specs.Prelude.{IfSome}
+use Rattle.packed.specs.Packed.{cells}
 use lib.Seq.{length-take-le}
 use Rattle.report.proofs.Missing.{walked}
-use Rattle.report.proofs.Reporting.{verdict_stands, verdict_done, first_small}
+use Rattle.report.proofs.Reporting.{verdict_stands, verdict_done, first_small, mapped}
 use Rattle.report.proofs.verdict.Goals as goal
 
 pub overflow_mul-counts : goal.overflow_mul-counts
@@ -26,8 +28,9 @@ slice_bounds-first-end-4 c = sym (length-take-le _ _ (verdict_stands c.args.list
 pub first-first-requires : goal.first-first-requires
 first-first-requires c = walked _ _ _ _ _ (verdict_stands c.args.list.now _ _ c.in_ok-counts.ensures refl)
 
-pub unpacked-requires : goal.unpacked-requires
-unpacked-requires c = first_small _ _ c.first-first.ensures
+pub map-requires : goal.map-requires
+map-requires c = λ x e. subst (λ o. IfSome o (λ k. k < cells)) e (first_small _ _ c.first-first.ensures)
 
 pub returns : goal.returns
-returns c = rw c.unpacked.ensures (verdict_done c.args.list.now _ _ c.in_ok-counts.ensures refl _ c.first-first.ensures)
+returns c =
+    rw (mapped c.first-first.result c.map.result c.map.ensures.cases) (verdict_done c.args.list.now _ _ c.in_ok-counts.ensures refl _ c.first-first.ensures)

@@ -1,8 +1,7 @@
 -- The search for the edge that crosses the row after y: a turn goes one edge upwards. Assumes nothing.
 use Prim.Native.Nat.{◌+◌}
 use Rattle.packed.specs.Corners.{keys_of}
-use Rattle.stretch.specs.Stretch.{Nears}
-use Rattle.stretch.proofs.Upwards.{corners_left}
+use Rattle.stretch.proofs.Upwards.{corners_left, Nears}
 use Rattle.stretch.proofs.Edge.advance.Given as goal
 
 abbrev pub invariant-loop-low : goal.invariant-loop-low
