@@ -1,9 +1,8 @@
 -- Laws of bytes put one after the other into a room that may be too small. Assumes nothing.
-use Rattle.std.proofs.Common.{◌≡◌, refl, sym, ◌∙◌, ap, List, [], ◌∷◌, ◌++◌, ℕ, suc, ◌+◌, ◌-◌, ◌≤◌, ◌<◌, length, take, drop, Result, Ok, Err, IsErr, arith, append_assoc, length-append}
+use Rattle.std.proofs.Common.{◌≡◌, refl, sym, ◌∙◌, ap, subst, List, [], ◌∷◌, ◌++◌, ℕ, suc, ◌+◌, ◌-◌, ◌≤◌, ◌<◌, length, get_or, take, drop, Result, Ok, Err, IsErr, arith, add-one, length-append}
 use Rattle.std.proofs.lemmas.Bool.{false≢true}
-use lib.ListN.{set, take-append-drop}
-use lib.Seq.{sets, sets-eq, length-sets, length-take-le, set_out, drop-drop}
-use borrow.Rule.Slice.PartMut.{put_mid}
+use lib.ListN.{set, length-drop, take-append-drop}
+use lib.Seq.{sets, length-sets, length-take-le, set_out, take-suc}
 use Rattle.csv_text.specs.declared.text.Text.{Text}
 use Rattle.csv_text.specs.declared.text.Full.{Full}
 use Rattle.csv_text.specs.Written.{Whole, Cut, Puts}
@@ -28,24 +27,6 @@ sets_cut l i a h g =
     ap (sets l i) (sym (take-append-drop n a))
     ∙ sets_append l i front (drop n a)
     ∙ sets_out (sets l i front) (i + length front) (drop n a) (omega (arith, length-sets l i front))
-
--- ---- a part of a room, when it has been written
-part_set : (room : List ℕ) (i k : ℕ) (a : List ℕ) → k ≡ length a → i + k ≤ length room → put_mid i k room a ≡ sets room i a
-part_set room i k a e h =
-    ap (λ l. take i room ++ (a ++ l)) (drop-drop k i room ∙ ap (λ n. drop (i + n) room) e)
-    ∙ sym (append_assoc (take i room) a (drop (i + length a) room))
-    ∙ sym (sets-eq a room i (omega arith))
-
-module _ (room : List ℕ) (i : ℕ) (bytes part : List ℕ) (inside : i ≤ length room) where
-  pub part_whole : (k : ℕ) → part ≡ bytes → k ≡ length bytes → i + k ≤ length room → put_mid i k room part ≡ sets room i bytes
-  part_whole k e f h = ap (put_mid i k room) e ∙ part_set room i k bytes f h
-
-  pub part_cut : part ≡ take (length room - i) bytes → length room - i < length bytes → put_mid i (length room - i) room part ≡ sets room i bytes
-  part_cut e h =
-      let n = length room - i in
-      ap (put_mid i n room) e
-      ∙ part_set room i n (take n bytes) (sym (length-take-le n bytes (omega arith))) (omega arith)
-      ∙ sym (sets_cut room i bytes inside (omega arith))
 
 -- ---- one text behind another
 module _ {t u : Text} {a : List ℕ} (h : Whole t a u) where
@@ -72,6 +53,22 @@ module _ {t u : Text} {a : List ℕ} (h : Whole t a u) where
   pub puts_append : (v : Text) (b : List ℕ) (r : Result (Unit {0}) Full) → Puts u b r v → Puts t (a ++ b) r v
   puts_append v b (Ok _) g = whole_append g
   puts_append v b (Err _) g = whole_cut g
+
+-- ---- one byte behind another
+module _ {t u : Text} (bytes : List ℕ) (i : ℕ) (h : Whole t (take i bytes) u) (inside : i < length bytes) where
+  pub whole_byte : {v : Text} → Whole u (get_or bytes i 0 ∷ []) v → Whole t (take (i + 1) bytes) v
+  whole_byte {v} g =
+      subst (λ text. Whole t text v) (sym (take-suc bytes i 0 inside) ∙ ap (λ n. take n bytes) (sym (add-one i))) (whole_append h g)
+
+  -- the room is full, and a byte is left
+  pub whole_full : length u.room.now ≤ u.at → Cut t bytes u
+  whole_full full =
+      subst (λ text. Cut t text u) (take-append-drop i bytes)
+      (whole_cut h (record {
+        same = refl;
+        stands = sym (sets_out u.room.now u.at (drop i bytes) full);
+        over = omega (arith, full, length-drop i bytes);
+      }))
 
 pub cut_append : {t u : Text} {a : List ℕ} (b : List ℕ) → Cut t a u → Cut t (a ++ b) u
 cut_append {t} {u} {a} b h = record {

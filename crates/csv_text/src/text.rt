@@ -52,20 +52,18 @@ impl Decimal for i32 {
 impl Text<'_> {
     ghost use Rattle.csv_text.specs.Written.{Puts};
 
-    // Bytes, as far as there is room for them.
+    // Bytes one after the other, as far as there is room for them. By `copy_from_slice` the archive for C would need `memmove` from outside.
     pub(crate) fn put(&mut self, bytes: &[u8]) -> Result<(), Full>
         ensures { Puts self.old bytes.now result self.new }
     {
-        let free = self.room.len() - self.at;
-        if bytes.len() <= free {
-            let end = self.at + bytes.len();
-            self.room[self.at..end].copy_from_slice(bytes);
-            self.at = end;
-            Ok(())
-        } else {
-            self.room[self.at..].copy_from_slice(&bytes[..free]);
-            Err(Full)
+        for b in bytes {
+            if self.room.len() <= self.at {
+                return Err(Full);
+            }
+            self.room[self.at] = *b;
+            self.at += 1;
         }
+        Ok(())
     }
 
     // A line of a kind and two numbers.

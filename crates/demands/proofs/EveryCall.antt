@@ -1,6 +1,6 @@
 -- "For every input, declined ones too, the promise of a public call determines the answer and the later contents of each list lent to it. Show that
--- any two outcomes allowed by it coincide." An outcome is what a call answers and what stands in each lent list that it may write. A
--- list that is lent to be read can't change. That there is an outcome is what the proof of the call itself shows. Assumes nothing.
+-- any two outcomes allowed by it coincide." An outcome is what a call answers, as document 01 numbers it, and what stands in each lent
+-- list that it may write. A list that is lent to be read can't change. That there is an outcome is what the proof of the call itself shows. Assumes nothing.
 use mathlib.Core.List.{List}
 use lib.IntN.{ℤ}
 use Rattle.order.specs.declared.Ordered.{Ordered}

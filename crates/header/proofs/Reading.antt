@@ -13,7 +13,6 @@ use Rattle.header.specs.Bytes.{line_end, hash, read_in, placed_at_read}
 use Rattle.header.specs.Steps.{Settled}
 use Rattle.header.proofs.Tests.{line_end_no_hash, ends_of}
 
--- ---- past the end nothing is read
 -- ---- the byte at i, then those from i + 1 on
 module _ (bytes : List ℕ) (i : ℕ) (inside : i < length bytes) where
   abbrev byte_at : ℕ

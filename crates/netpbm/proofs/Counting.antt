@@ -11,6 +11,10 @@ use Rattle.netpbm.specs.Raster.{Raster, pixels, fault, onto, black}
 use Rattle.netpbm.specs.Steps.{blacks, counted}
 
 -- ---- the raster, from its count
+pub counted_fault : (r : Raster) (refusal : Refusal) → Err refusal ≡ counted 0 r → r ≡ fault refusal
+counted_fault (pixels l) refusal e = absurd cc
+counted_fault (fault other) refusal e = cc
+
 black_length : (width k : ℕ) (l : List Bool) → length (black width k l) ≡ blacks l
 black_length width k [] = refl
 black_length width k (true ∷ l) = ap suc (black_length width (suc k) l)
@@ -35,6 +39,11 @@ pub record Counting (raster : ℕ → ℕ → Raster) (at all before black k i :
   pub upto : k ≤ all
   pub few : black ≤ before + k
 
+pub counting_none : (raster : ℕ → ℕ → Raster) (at all before : ℕ) → Counting raster at all before before 0 at
+counting_none raster at all before =
+    let e : all - 0 ≡ all = omega arith in
+    record { same = ap (λ n. counted before (raster n at)) e; upto = omega arith; few = omega arith }
+
 module _ (raster : ℕ → ℕ → Raster) (at all before black k i : ℕ) (h : Counting raster at all before black k i) where
   next_left : k < all → all - k ≡ suc (all - (k + 1))
   next_left l = omega arith
@@ -42,6 +51,21 @@ module _ (raster : ℕ → ℕ → Raster) (at all before black k i : ℕ) (h : 
   -- what is fetched next
   fetched : k < all → (r : ℕ → Raster) → ((n : ℕ) → raster (suc n) i ≡ r n) → counted black (r (all - (k + 1))) ≡ counted before (raster all at)
   fetched l r f = ap (counted black) (sym (f (all - (k + 1))) ∙ ap (λ n. raster n i) (sym (next_left l))) ∙ h.same
+
+  module _ (l : k < all) (next : ℕ) where
+    pub counting_black : ((n : ℕ) → raster (suc n) i ≡ onto true (raster n next)) → Counting raster at all before (black + 1) (k + 1) next
+    counting_black f = record {
+      same = sym (counted_black black (raster (all - (k + 1)) next)) ∙ fetched l (λ n. onto true (raster n next)) f;
+      upto = omega arith;
+      few = omega (arith, h.few);
+    }
+
+    pub counting_white : ((n : ℕ) → raster (suc n) i ≡ onto false (raster n next)) → Counting raster at all before black (k + 1) next
+    counting_white f = record {
+      same = sym (counted_white black (raster (all - (k + 1)) next)) ∙ fetched l (λ n. onto false (raster n next)) f;
+      upto = omega arith;
+      few = omega (arith, h.few);
+    }
 
   pub counting_fault : k < all → (refusal : Refusal) → ((n : ℕ) → raster (suc n) i ≡ fault refusal)
       → Err refusal ≡ counted before (raster all at)

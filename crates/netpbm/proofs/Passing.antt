@@ -1,11 +1,16 @@
 -- Laws of white pixels that are passed, however they are fetched. Assumes nothing.
-use mathlib.Core.Path.{◌≡◌, ◌∙◌, ap}
+use mathlib.Core.Path.{◌≡◌, refl, ◌∙◌, ap}
 use mathlib.Core.Bool.{Bool, false}
 use mathlib.Core.List.{List, ◌∷◌}
 use Prim.Native.Nat.{ℕ, zero, suc, ◌+◌, ◌-◌}
 use native.Mathlib.Omega.{arith}
 use Rattle.netpbm.specs.Raster.{Raster}
 use Rattle.netpbm.specs.Steps.{whites, Passes}
+
+pub passes_none : (raster : ℕ → ℕ → Raster) (at : ℕ) → Passes raster at 0 at
+passes_none raster at n l e =
+    let a : n - 0 ≡ n = omega arith in
+    record { fits = omega arith; rest = l; behind = ap (λ k. raster k at) a ∙ e; same = refl }
 
 whites_more : (m k : ℕ) (l : List Bool) → whites m (whites k l) ≡ whites (m + k) l
 whites_more zero k l = let e : k ≡ 0 + k = omega arith in ap (λ j. whites j l) e

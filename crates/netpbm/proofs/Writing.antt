@@ -12,7 +12,7 @@ use Rattle.refusal.specs.declared.Refusal.{Refusal}
 use Rattle.lattice.specs.Room.{holding}
 use Rattle.lattice.proofs.Rooms.{holding_length, holding_next}
 use Rattle.netpbm.specs.Raster.{Raster, pixels, fault, onto, pixel_point, black, black_in}
-use Rattle.netpbm.specs.Steps.{whites, Passes}
+use Rattle.netpbm.specs.Steps.{whites, Passes, Writable}
 
 -- a pixel more: the pixels behind it
 pub onto_pixels : (p : Bool) (r : Raster) (l : List Bool) → onto p r ≡ pixels l → (m : List Bool) × (r ≡ pixels m) × (l ≡ p ∷ m)
@@ -28,6 +28,20 @@ pub record Writing (raster : ℕ → ℕ → Raster) (at all width : ℕ) (list�
   pub count : length written ≡ n
   pub stand : list ≡ holding written list₀
   pub upto : k ≤ all
+
+pub writing_none : (raster : ℕ → ℕ → Raster) (at all width : ℕ) (list : List ℤ) → Writable (raster all at) width all list
+    → Writing raster at all width list list 0 0 at
+writing_none raster at all width list w =
+    let e : all - 0 ≡ all = omega arith in
+    record {
+      written = [];
+      rest = w.sound.0;
+      left = ap (λ n. raster n at) e ∙ w.sound.1;
+      same = ap (black_in width) (sym w.sound.1);
+      count = refl;
+      stand = refl;
+      upto = omega arith;
+    }
 
 module _ (raster : ℕ → ℕ → Raster) (at all width : ℕ) (list₀ list : List ℤ) (n k i : ℕ)
     (h : Writing raster at all width list₀ list n k i) (inside : k < all) where

@@ -3,7 +3,7 @@ use mathlib.Core.Path.{◌≡◌, refl, sym, ◌∙◌, ap, subst}
 use mathlib.Core.List.{List}
 use Prim.Native.Nat.{ℕ, ◌*◌, ◌≤◌}
 use native.Mathlib.Omega.{arith}
-use lib.ListN.{length, take}
+use lib.ListN.{length, take, drop, length-append}
 use lib.Seq.{length-take-le}
 use lib.IntN.{ℤ}
 use Rattle.lattice.specs.Point.{most}
@@ -48,3 +48,7 @@ module _ (bytes : List ℕ) (list : List ℤ) (answer : Picture) (after : List �
       answers = h.answers;
       stands = h.stands;
     }
+
+-- ---- for callers: the answer counts bytes of the room
+pub writes_inside : {Right : List ℕ → Type 0} {out : List ℕ} {answer : ℕ} {after : List ℕ} → Writes Right out answer after → answer ≤ length after
+writes_inside {Right} {out} h = omega (arith, h.answers, ap length h.stands, length-append h.text (drop (length h.text) out))

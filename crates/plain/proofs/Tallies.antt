@@ -15,7 +15,7 @@ use Rattle.netpbm.proofs.Counting.{counted_black, counted_white}
 use Rattle.netpbm.proofs.Writing.{onto_pixels}
 use Rattle.plain.specs.declared.Tally.{Tally}
 use Rattle.plain.specs.Plain.{plain, plain_at}
-use Rattle.plain.specs.Steps.{bad_byte, black_byte, white_byte, number, part, Tallied, IsPart}
+use Rattle.plain.specs.Steps.{bad_byte, black_byte, white_byte, number, Tallied}
 use Rattle.plain.proofs.Plain.{blank_ignored, black_first, white_first}
 
 -- ---- how many pass a test
@@ -116,7 +116,7 @@ counted_numbers (suc d) (b ∷ l) n i c dark light long none e f few =
         let v : bool_byte (bad_byte b) ≡ 1 = rw (s, o, z) in
         absurd (omega (arith, number_drop bad_byte d l))
 
--- ---- bytes of which none is a black pixel are white dark, where there is no fault
+-- ---- bytes of which none is a black pixel are white ones, where there is no fault
 white_numbers : (d : ℕ) (l : List ℕ) (n i m : ℕ) (q : List Bool) → d ≤ length l → number black_byte l ≡ number black_byte (drop d l)
     → number white_byte l ≡ m + number white_byte (drop d l) → plain l n i ≡ pixels q → WhiteThen (plain (drop d l)) n m (i + d) q
 white_numbers zero l n i m q long none e f =
@@ -154,39 +154,39 @@ white_numbers (suc d) (b ∷ l) n i m q long none e f = by_kind (kind_of b) n m 
     by_kind (bad s o z) zero m e f again = absurd (let h = rw s at f in cc)
     by_kind (bad s o z) (suc n) m e f again = absurd (let h = rw (s, o, z) at f in cc)
 
--- ---- a part of the file
-module _ (bytes : List ℕ) (i : ℕ) (l : List ℕ) (p : IsPart bytes i l) (t : Tally) (h : Tallied l t) where
-  behind : drop part (drop i bytes) ≡ drop (i + part) bytes
-  behind = drop-drop part i bytes
+-- ---- a stretch of the file: l holds the d bytes from place i on
+module _ (bytes : List ℕ) (i d : ℕ) (l : List ℕ) (inside : i + d ≤ length bytes) (same : l ≡ take d (drop i bytes)) (t : Tally) (h : Tallied l t) where
+  behind : drop d (drop i bytes) ≡ drop (i + d) bytes
+  behind = drop-drop d i bytes
 
-  long : part ≤ length (drop i bytes)
-  long = omega (arith, p.inside, length-drop i bytes)
+  long : d ≤ length (drop i bytes)
+  long = omega (arith, inside, length-drop i bytes)
 
-  more : (test : ℕ → Bool) → number test (drop i bytes) ≡ number test l + number test (drop part (drop i bytes))
-  more test = number_take test part (drop i bytes) ∙ ap (λ k. number test k + number test (drop part (drop i bytes))) (sym p.same)
+  more : (test : ℕ → Bool) → number test (drop i bytes) ≡ number test l + number test (drop d (drop i bytes))
+  more test = number_take test d (drop i bytes) ∙ ap (λ k. number test k + number test (drop d (drop i bytes))) (sym same)
 
-  few : length l ≤ part
-  few = omega (arith, ap length p.same, length-take-le part (drop i bytes) long)
+  few : length l ≤ d
+  few = omega (arith, ap length same, length-take-le d (drop i bytes) long)
 
-  pub part_few : (t.black ≤ part) × (t.white ≤ part)
+  pub part_few : (t.black ≤ d) × (t.white ≤ d)
   part_few = (omega (arith, few, h.black, number_few black_byte l), omega (arith, few, h.white, number_few white_byte l))
 
   pub counted_part : t.bad ≡ 0 → (n c : ℕ) → t.black + t.white ≤ n
-      → counted c (plain_at bytes n i) ≡ counted (c + t.black) (plain_at bytes (n - (t.black + t.white)) (i + part))
+      → counted c (plain_at bytes n i) ≡ counted (c + t.black) (plain_at bytes (n - (t.black + t.white)) (i + d))
   counted_part none n c small =
-      counted_numbers part (drop i bytes) n i c t.black t.white long
+      counted_numbers d (drop i bytes) n i c t.black t.white long
       (omega (arith, more bad_byte, h.bad))
       (omega (arith, more black_byte, h.black))
       (omega (arith, more white_byte, h.white))
       small
-      ∙ ap (λ k. counted (c + t.black) (plain k (n - (t.black + t.white)) (i + part))) behind
+      ∙ ap (λ k. counted (c + t.black) (plain k (n - (t.black + t.white)) (i + d))) behind
 
-  pub passes_part : t.black ≡ 0 → Passes (plain_at bytes) i t.white (i + part)
+  pub passes_part : t.black ≡ 0 → Passes (plain_at bytes) i t.white (i + d)
   passes_part none n m e =
-      let w = white_numbers part (drop i bytes) n i t.white m long (omega (arith, more black_byte, h.black)) (omega (arith, more white_byte, h.white)) e in
+      let w = white_numbers d (drop i bytes) n i t.white m long (omega (arith, more black_byte, h.black)) (omega (arith, more white_byte, h.white)) e in
       record {
         fits = w.fits;
         rest = w.rest;
-        behind = ap (λ k. plain k (n - t.white) (i + part)) (sym behind) ∙ w.behind;
+        behind = ap (λ k. plain k (n - t.white) (i + d)) (sym behind) ∙ w.behind;
         same = w.same;
       }

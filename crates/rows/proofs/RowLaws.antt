@@ -1,8 +1,9 @@
 -- What a partition and a loop tell of the ends of a row, and that the ends of a sound list hold its row. Assumes nothing.
 use mathlib.Core.Path.{◌≡◌, ap, sym, ◌∙◌, subst}
 use mathlib.Core.Bool.{Bool, true, false}
+use mathlib.Core.Logic.{inl, inr}
 use mathlib.Core.List.{List, [], ◌∷◌}
-use Prim.Native.Nat.{ℕ, ◌+◌, ◌-◌, ◌≤◌, ◌<◌}
+use Prim.Native.Nat.{ℕ, ◌+◌, ◌*◌, ◌-◌, ◌≤◌, ◌<◌}
 use native.Mathlib.Omega.{arith}
 use borrow.Author.Count.{below_more}
 use lib.ListN.{length, get_or, take, drop, length-drop}
@@ -18,11 +19,13 @@ use Rattle.whole.proofs.Whole.{quote, gap≤, gap<, ◌⊞◌, linear≤, linear
 use Rattle.lattice.specs.Point.{Point, InRange, origin, points, point, Pairs, Before, row, column}
 use Rattle.lattice.proofs.Lists.{either}
 use Rattle.lattice.proofs.Places.{lt_or_le, all_place, pairs_place}
+use Rattle.lattice.proofs.Numbers.{points_length}
 use Rattle.packed.proofs.Small.{within_fits}
 use Rattle.packed.proofs.Tests.{lt_yes, lt_no, read_back}
 use Rattle.range.specs.Pairs.{pair_of, pairs_of}
 use Rattle.range.proofs.Chunks.{pairs_length}
-use Rattle.rows.specs.Row.{Sound, Holds, LeadsTo, RunsTo}
+use Rattle.rows.specs.declared.Ends.{Ends}
+use Rattle.rows.specs.Row.{Sound, Holds, LeadsTo, RunsTo, RowEndsPromise}
 
 -- the points from begin to i are in row y
 pub record Running (l : List Point) (y : ℤ) (begin i : ℕ) : Type 0 where
@@ -125,3 +128,9 @@ ends_hold l y begin end order lead run = record {
         linear≤ (y ∷ (point l begin).y ∷ (point l end).y ∷ [])
         (gap≤ (lead.stops (omega (arith, run.from))) ⊞ gap≤ (rows_along l order begin end run.from v)) (search quote depth 20) tt in
         either (le_or_lt (point l end).y y) (λ h. absurd (run.stops v (antisymmetric h from))) (λ h. h)
+
+-- ---- the ends of a part lie in the list
+pub ends_inside : (list : List ℤ) (y : ℤ) (ends : Ends) → RowEndsPromise list y ends
+    → (ends.begin ≤ ends.end) × (2 * ends.end ≤ length list)
+ends_inside list y ends (inl h) = (h.1.rising, omega (arith, h.1.inside, points_length list))
+ends_inside list y ends (inr h) = (omega (arith, h.1, h.2), omega (arith, h.2))

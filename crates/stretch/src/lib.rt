@@ -262,7 +262,7 @@ impl Crossing {
 }
 
 // The rows of a hull from that of its first corner to that of its last, each with the columns in which the hull has points of it.
-#[derive(Drop)]
+#[derive(Clone, Drop)]
 pub struct Rows<'a> {
     corners: Corners<'a>,
     last: u32,
