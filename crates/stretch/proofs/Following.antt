@@ -123,6 +123,9 @@ module _ (corners : List ℕ) (peak y : ℕ) (h : Peaked corners peak y) where
       down_high : y < get_or corners e.top 0 / side
       down_high = omega (arith, l, down.climbs.last)
 
+      pub left_below : y < last_row_lem
+      left_below = omega (arith, down_high, h.peaks.greatest e.top down.falls.inside)
+
       pub left_small : e.position + e.slope < unit * unit
       left_small = step_small _ _ y (falling_slope e.top down.end down.falls) moved (omega arith) down_high e down.climbs
 
